@@ -1,0 +1,5 @@
+pub mod Numbers
+pub mod FlagBits
+pub mod Places
+pub mod Back
+pub mod Sound

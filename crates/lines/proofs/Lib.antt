@@ -1,0 +1,3 @@
+pub mod Parts
+pub mod Digits
+pub mod Tariffs
