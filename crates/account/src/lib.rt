@@ -2,6 +2,8 @@
 pub mod reading;
 pub mod record;
 
+pub use reading::read_all;
+pub use reading::read_one;
 pub use record::AccountRecord;
 pub use record::Reading;
 pub use record::Status;

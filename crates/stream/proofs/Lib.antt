@@ -1,0 +1,4 @@
+pub mod Steps
+pub mod Loop
+pub mod Blocks
+pub mod Rest

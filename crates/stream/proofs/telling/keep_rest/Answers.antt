@@ -1,0 +1,7 @@
+use Rattle.stream.proofs.Rest.{keeps}
+use Rattle.stream.proofs.telling.keep_rest.Needs as need
+
+pub returns : need.returns
+returns c =
+    let moved = c .copy-within .ensures .places in
+    keeps (c .args .buffer .now) (c .copy-within .last .self) (c .args .filled) (c .min-filled .result) (c .min-filled .ensures) (c .copy-within .ensures .len) (moved .0) (moved .2)

@@ -1,0 +1,3 @@
+pub mod Told
+pub mod Stands
+pub mod Cuts
