@@ -1,7 +1,7 @@
 // A line for each frame, up to the first fault.
 ghost use mathlib.Core.Path.{_≡_};
 ghost use mathlib.Core.Bool.{false};
-ghost use Prim.Native.Nat.{ℕ, _+_, _*_, _≤_};
+ghost use Prim.Native.Nat.{ℕ, _+_, _*_, _/_, _≤_};
 ghost use lib.ListN.{length, take};
 ghost use Rattle.frame.specs.Frame.{frame-size};
 ghost use Rattle.account.specs.Records.{account-of};
@@ -43,13 +43,6 @@ impl Tally {
         ensures cuts { λ _. ⌜ Cut-anyhow ⌝ }
     {
         Tally::blank()
-    }
-
-    // Whether a fault ended the input.
-    pub fn has_ended(&self) -> bool
-        ensures { λ r. ⌜ r ≡ now (self .entry) .ended ⌝ }
-    {
-        self.ended
     }
 
     // What is told of a report, and where the text ends.
@@ -160,13 +153,21 @@ fn line_of_fault(out: &mut [u8], at: usize, layer: Layer, refusal: Refusal, plac
     }
 }
 
+// How many of so many bytes make up whole frames.
+fn whole_frames(bytes: usize) -> usize
+    ensures is { λ r. ⌜ r ≡ bytes / frame-size * frame-size ⌝ }
+    ensures few { λ r. ⌜ r ≤ bytes ⌝ }
+{
+    bytes / FRAME * FRAME
+}
+
 // Moves the bytes after the whole frames among the first `filled` of a buffer to its front, and
 // returns how many they are. No more bytes are filled than the buffer has.
 pub fn keep_rest(buffer: &mut [u8], filled: usize) -> usize
     ensures { λ r. ⌜ Keeps (now (buffer .entry)) filled r (now (buffer .exit)) ⌝ }
 {
     let filled = filled.min(buffer.len());
-    let whole = filled / FRAME * FRAME;
+    let whole = whole_frames(filled);
     buffer.copy_within(whole..filled, 0);
     filled - whole
 }

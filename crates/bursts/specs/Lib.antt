@@ -1,0 +1,4 @@
+pub mod Limits
+pub mod Ranges
+pub mod Made
+pub mod Plan

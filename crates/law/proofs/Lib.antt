@@ -1,0 +1,10 @@
+pub mod Tallies
+pub mod Agreement
+pub mod Unreported
+pub mod Reporting
+pub mod Calls
+pub mod Simulation
+pub mod GiveUp
+pub mod Stopping
+pub mod EveryRun
+pub mod Playing

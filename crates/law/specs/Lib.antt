@@ -1,0 +1,12 @@
+pub mod Journal
+pub mod Ticks
+pub mod Law
+pub mod AboutRuns
+pub mod Samples
+pub mod RunMixed
+pub mod RunLate
+pub mod RunTariffs
+pub mod RunConnections
+pub mod RunAdvice
+pub mod RunUnconfirmed
+pub mod Runs
