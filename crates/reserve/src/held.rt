@@ -44,7 +44,7 @@ fn size(places: &[Report; RESERVE_PLACES]) -> usize
 
 impl Held {
     // Nothing held.
-    pub fn new() -> Held
+    pub(crate) fn new() -> Held
         ensures { λ h. ⌜ kept h ≡ [] ⌝ }
     {
         Held {
@@ -54,7 +54,7 @@ impl Held {
     }
 
     // How many are held.
-    pub fn len(&self) -> usize
+    pub(crate) fn len(&self) -> usize
         ensures is { λ n. ⌜ n ≡ length (kept (now (self .entry))) ⌝ }
         ensures few { λ n. ⌜ n ≤ reserve-places ⌝ }
     {
@@ -62,14 +62,14 @@ impl Held {
     }
 
     // Whether nothing is held.
-    pub fn is_empty(&self) -> bool
+    pub(crate) fn is_empty(&self) -> bool
         ensures { λ b. ⌜ When b (kept (now (self .entry)) ≡ []) (0 < length (kept (now (self .entry)))) ⌝ }
     {
         self.len() == 0
     }
 
     // Holds one more, or changes nothing where every place is taken; says which.
-    pub fn push(&mut self, r: Report) -> bool
+    pub(crate) fn push(&mut self, r: Report) -> bool
         ensures { λ b. ⌜ When b (Kept (now (self .entry)) r (now (self .exit))) (NotKept (now (self .entry)) (now (self .exit))) ⌝ }
     {
         let window = self.window;
@@ -84,14 +84,14 @@ impl Held {
     }
 
     // The oldest, and the window that holds the others.
-    pub fn oldest(&self) -> Option<(Report, Window)>
+    pub(crate) fn oldest(&self) -> Option<(Report, Window)>
         ensures { λ r. ⌜ BySome r (kept (now (self .entry)) ≡ []) (λ p. kept (now (self .entry)) ≡ p .0 ∷ list (now (self .entry) .places) (p .1)) ⌝ }
     {
         first(&self.places, self.window)
     }
 
     // Holds what the window holds.
-    pub fn keep(&mut self, window: Window)
+    pub(crate) fn keep(&mut self, window: Window)
         ensures { λ _. ⌜ kept (now (self .exit)) ≡ list (now (self .entry) .places) window ⌝ }
     {
         self.window = window;

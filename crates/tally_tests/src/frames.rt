@@ -7,15 +7,38 @@ use report::Elapsed;
 use report::Refusal;
 use report::Report;
 use report::Standing;
-use report::report::ReportDebug;
-use report::report::ReportPartialEq;
 use report::refusal::RefusalDebug;
 use report::refusal::RefusalPartialEq;
+use report::report::ReportDebug;
+use report::report::ReportPartialEq;
 use std::test::*;
 
 // Address 1.2, number 1, party 1, tick 1,000, the last report, plain, 600 ticks.
 const SAMPLE: [u8; 24] = [
-    0x18, 0, 1, 0, 1, 2, 1, 0, 0, 1, 0, 0, 0xE8, 3, 0, 0, 0x58, 2, 0, 0, 0, 0, 0, 0,
+    0x18,
+    0,
+    1,
+    0,
+    1,
+    2,
+    1,
+    0,
+    0,
+    1,
+    0,
+    0,
+    0xE8,
+    3,
+    0,
+    0,
+    0x58,
+    2,
+    0,
+    0,
+    0,
+    0,
+    0,
+    0,
 ];
 
 fn sample() -> Report {
