@@ -1,0 +1,3 @@
+pub mod Engines
+pub mod Answers
+pub mod Runs

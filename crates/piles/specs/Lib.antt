@@ -1,0 +1,3 @@
+pub mod Batches
+pub mod Calls
+pub mod Piles
