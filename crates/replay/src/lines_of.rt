@@ -21,11 +21,11 @@ fn line_end(text: &[u8]) -> usize
 }
 
 impl<'a> Lines<'a> {
-    pub fn of(text: &'a [u8]) -> Lines<'a> {
+    pub(crate) fn of(text: &'a [u8]) -> Lines<'a> {
         Lines { rest: text }
     }
 
-    pub fn next(&mut self) -> Option<&'a [u8]>
+    pub(crate) fn next(&mut self) -> Option<&'a [u8]>
         ensures { λ r. ⌜ BySome r (Unit {0}) (λ _. length (now (now (self .exit) .rest)) < length (now (now (self .entry) .rest))) ⌝ }
     {
         if self.rest.is_empty() {

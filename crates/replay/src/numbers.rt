@@ -2,7 +2,7 @@
 use report::Address;
 
 // A decimal number that fits 32 bits.
-pub fn number(word: &[u8]) -> Option<u32> {
+pub(crate) fn number(word: &[u8]) -> Option<u32> {
     if word.is_empty() {
         return None;
     }
@@ -17,16 +17,16 @@ pub fn number(word: &[u8]) -> Option<u32> {
     Some(n)
 }
 
-pub fn number_16(word: &[u8]) -> Option<u16> {
+pub(crate) fn number_16(word: &[u8]) -> Option<u16> {
     u16::try_from(number(word)?).ok()
 }
 
-pub fn number_8(word: &[u8]) -> Option<u8> {
+pub(crate) fn number_8(word: &[u8]) -> Option<u8> {
     u8::try_from(number(word)?).ok()
 }
 
 // A kind, a point and a number.
-pub fn address(word: &[u8]) -> Option<Address> {
+pub(crate) fn address(word: &[u8]) -> Option<Address> {
     for (n, b) in word.iter().enumerate() {
         if *b == b'.' {
             return Some(Address {

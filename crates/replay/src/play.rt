@@ -68,7 +68,7 @@ const BLANK: Report = Report {
     elapsed: Elapsed::Plain(0),
 };
 
-pub fn read_script(heap: Global, text: &[u8]) -> Result<Script, AllocError> {
+pub(crate) fn read_script(heap: Global, text: &[u8]) -> Result<Script, AllocError> {
     let mut settings = Settings {
         wait: None,
         pile: None,
@@ -140,7 +140,7 @@ fn play_under<L: Link + Drop>(
 }
 
 // Plays a script's calls over the link that it asks for; the reports that still wait at the end.
-pub fn play(heap: Global, script: &mut Script) -> Result<Vec<Report>, AllocError> {
+pub(crate) fn play(heap: Global, script: &mut Script) -> Result<Vec<Report>, AllocError> {
     let mut left = Vec::new(heap);
     let pile = script.pile;
     if pile.frames {

@@ -12,7 +12,7 @@ use std::io;
 use std::io::Write;
 
 // The words of a line, a space apart, without its comment.
-pub fn say_words<W: Write>(out: &mut W, line: &[u8]) -> io::Result<()> {
+pub(crate) fn say_words<W: Write>(out: &mut W, line: &[u8]) -> io::Result<()> {
     let mut words = Words::of(line);
     let Some(first) = words.next() else {
         return Ok(());
@@ -25,7 +25,7 @@ pub fn say_words<W: Write>(out: &mut W, line: &[u8]) -> io::Result<()> {
     Ok(())
 }
 
-pub fn say_reply<W: Write>(out: &mut W, reply: &Reply) -> io::Result<()> {
+pub(crate) fn say_reply<W: Write>(out: &mut W, reply: &Reply) -> io::Result<()> {
     match reply {
         Reply::Refused(refusal) => {
             let number = refusal.number();

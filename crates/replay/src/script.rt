@@ -37,7 +37,7 @@ pub enum Line {
 // The most places of a ring.
 const MOST_PLACES: u32 = 64;
 
-pub fn line_of(line: &[u8]) -> Line {
+pub(crate) fn line_of(line: &[u8]) -> Line {
     let mut words = Words::of(line);
     let Some(first) = words.next() else {
         return Line::Blank;

@@ -36,14 +36,14 @@ fn before_comment(line: &[u8]) -> &[u8] {
 }
 
 impl<'a> Words<'a> {
-    pub fn of(line: &'a [u8]) -> Words<'a> {
+    pub(crate) fn of(line: &'a [u8]) -> Words<'a> {
         Words {
             rest: before_comment(line),
         }
     }
 
     // The next word, if there is one.
-    pub fn next(&mut self) -> Option<&'a [u8]>
+    pub(crate) fn next(&mut self) -> Option<&'a [u8]>
         ensures { λ r. ⌜ BySome r (Unit {0}) (λ _. length (now (now (self .exit) .rest)) < length (now (now (self .entry) .rest))) ⌝ }
     {
         let start = run_of(self.rest, true);
