@@ -15,7 +15,7 @@ import sys
 # Names that would fall together with another, and what each is called.
 OWN = {
     "Every-pile": "EachPileStands",
-    "getD-places": "slice_index_or-places",
+    "getD-places": "get_or-places",
     "read-++": "read-++",
 }
 MADE = ("Answers.antt", "Invariants.antt", "Choices.antt", "Proof.antt")
@@ -34,7 +34,7 @@ def sources(root):
 
 def declared(path):
     """The names that a file of specs/ or of lemmas declares, with whether each is a fact."""
-    if not path.endswith(".antt") or os.path.basename(path) in MADE:
+    if not path.endswith(".antt") or (os.path.basename(path) in MADE and "/proofs/" in path):
         return
     with open(path, encoding="utf-8") as f:
         lines = f.read().split("\n")
@@ -49,6 +49,8 @@ def camel(name):
 
 
 def spelled(name, fact):
+    if name in OWN.values():
+        return name
     if name in OWN:
         return OWN[name]
     if fact:

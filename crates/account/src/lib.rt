@@ -1,4 +1,6 @@
 // Accounts of connections, read from their reports.
+#![tactic(auto)]
+
 pub mod reading;
 pub mod record;
 

@@ -1,4 +1,6 @@
 // Lists of warning tones: how long one sounds, and when each of its tones starts.
+#![tactic(auto)]
+
 pub mod limits;
 pub mod list;
 pub mod make;

@@ -22,14 +22,14 @@ replied (Ok _) o = Done o
 replied (Err e) o = Refused e
 
 -- the same of a set-up, which hands out a consultation
-abbrev pub set-up-replied : Result Consultation Refusal → Order → Reply
-set-up-replied (Ok _) o = Done o
-set-up-replied (Err e) o = Refused e
+abbrev pub set_up_replied : Result Consultation Refusal → Order → Reply
+set_up_replied (Ok _) o = Done o
+set_up_replied (Err e) o = Refused e
 
 -- the same of a call that took a consultation back
-abbrev pub returned-replied : Result (Unit {0}) Returned → Order → Reply
-returned-replied (Ok _) o = Done o
-returned-replied (Err x) o = Refused x.refusal
+abbrev pub returned_replied : Result (Unit {0}) Returned → Order → Reply
+returned_replied (Ok _) o = Done o
+returned_replied (Err x) o = Refused x.refusal
 
 module _ {E : Type 0} where
   -- a refusal leaves the whole engine, its link included, and the order's place as they were

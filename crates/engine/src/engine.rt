@@ -9,7 +9,7 @@ ghost use Rattle.rules.specs.Steps.{Does, took};
 ghost use Rattle.rules.specs.declared.call.Call.TheVariants.{On, Fire, Take};
 ghost use Rattle.rules.specs.declared.call.Operation.TheVariants.{SetUp, Continue, Bar, Instruct, Advise, Answer, Disconnect, Confirm, Repeat};
 ghost use Rattle.engine.specs.Engines.{state};
-ghost use Rattle.engine.specs.Answers.{Hands, replied, set-up-replied, returned-replied, Leaves, SetUpLeaves, ReturnedLeaves};
+ghost use Rattle.engine.specs.Answers.{Hands, replied, set_up_replied, returned_replied, Leaves, SetUpLeaves, ReturnedLeaves};
 
 use crate::consultation::{Consultation, Returned};
 use link::Link;
@@ -78,7 +78,7 @@ impl<L: Link> Engine<L> {
         address: Address,
         order: &mut Order,
     ) -> Result<Consultation, Refusal>
-        ensures does { Does (On tick address SetUp) (state L.Link.view self.old) (set-up-replied result order.new) (state L.Link.view self.new) }
+        ensures does { Does (On tick address SetUp) (state L.Link.view self.old) (set_up_replied result order.new) (state L.Link.view self.new) }
         ensures leaves { SetUpLeaves address result self.old self.new order.old order.new }
     {
         match self.operate(tick, address, &Operation::SetUp, order) {
@@ -95,7 +95,7 @@ impl<L: Link> Engine<L> {
         operation: &Operation,
         order: &mut Order,
     ) -> Result<(), Returned>
-        ensures does { Does (On tick consultation.address operation.now) (state L.Link.view self.old) (returned-replied result order.new) (state L.Link.view self.new) }
+        ensures does { Does (On tick consultation.address operation.now) (state L.Link.view self.old) (returned_replied result order.new) (state L.Link.view self.new) }
         ensures leaves { ReturnedLeaves consultation result self.old self.new order.old order.new }
     {
         match self.operate(tick, consultation.address, operation, order) {
@@ -117,7 +117,7 @@ impl<L: Link> Engine<L> {
         consultation: Consultation,
         order: &mut Order,
     ) -> Result<(), Returned>
-        ensures does { Does (On tick consultation.address Continue) (state L.Link.view self.old) (returned-replied result order.new) (state L.Link.view self.new) }
+        ensures does { Does (On tick consultation.address Continue) (state L.Link.view self.old) (returned_replied result order.new) (state L.Link.view self.new) }
         ensures leaves { ReturnedLeaves consultation result self.old self.new order.old order.new }
     {
         self.end_consultation(tick, consultation, &Operation::Continue, order)
@@ -130,7 +130,7 @@ impl<L: Link> Engine<L> {
         consultation: Consultation,
         order: &mut Order,
     ) -> Result<(), Returned>
-        ensures does { Does (On tick consultation.address Bar) (state L.Link.view self.old) (returned-replied result order.new) (state L.Link.view self.new) }
+        ensures does { Does (On tick consultation.address Bar) (state L.Link.view self.old) (returned_replied result order.new) (state L.Link.view self.new) }
         ensures leaves { ReturnedLeaves consultation result self.old self.new order.old order.new }
     {
         self.end_consultation(tick, consultation, &Operation::Bar, order)

@@ -1,4 +1,6 @@
 // The engine: every call over any report link.
+#![tactic(auto)]
+
 pub mod consultation;
 pub mod engine;
 pub mod whole_run;

@@ -3,7 +3,7 @@ ghost use Rattle.std.specs.Prelude.{◌≡◌};
 ghost use Rattle.rules.specs.Core.{start};
 ghost use Rattle.rules.specs.Steps.{Does, Run};
 ghost use Rattle.rules.specs.declared.call.Call.TheVariants.{On, Fire};
-ghost use Rattle.engine.specs.Answers.{replied, returned-replied};
+ghost use Rattle.engine.specs.Answers.{replied, returned_replied};
 ghost use Rattle.engine.specs.Engines.{state};
 ghost use Rattle.engine.specs.Runs.{calls_of, replies_of, Ran};
 
@@ -30,7 +30,7 @@ fn told(answer: Result<(), Refusal>, order: Order) -> Reply
 }
 
 fn told_back(answer: Result<(), Returned>, order: Order) -> Reply
-    ensures { result ≡ returned-replied answer order }
+    ensures { result ≡ returned_replied answer order }
 {
     match answer {
         Ok(()) => Reply::Done(order),

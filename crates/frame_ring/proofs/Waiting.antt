@@ -14,7 +14,7 @@ use Rattle.frame_ring.specs.Places.{places_in, place_at, places, Filled}
 use Rattle.frame_ring.specs.Frames.{waiting, bytes_view, Appended, NotAppended, NotSent, First}
 use Rattle.frame_ring.specs.Ring.{memory, frame_view, frame_whole, next_slot, Sent}
 use Rattle.frame_ring.specs.declared.ring.FrameRing.{FrameRing}
-use Rattle.frame_ring.proofs.Written.{length_places, slice_index_or-places}
+use Rattle.frame_ring.proofs.Written.{length_places, get_or-places}
 
 -- as many wait as the window says
 pub length_waiting : (b : List ℕ) (w : Window) → length (waiting b w) ≡ count_of (places_in b) w
@@ -60,7 +60,7 @@ is_first b w r t size is leaves reads =
     let xs = places b in
     let n = length_places b in
     let e = subst (λ k. Leaves k w t) is leaves in
-    let h = heads xs w r t (subst (λ k. Leaves k w t) (sym n) e) (reads ∙ sym (slice_index_or-places b t.place r e.inside)) in
+    let h = heads xs w r t (subst (λ k. Leaves k w t) (sym n) e) (reads ∙ sym (get_or-places b t.place r e.inside)) in
     let one : (bytes_view b t.window).free ≡ (bytes_view b w).free + 1 = omega (arith, h.free, n) in
     record {
       takes = (h.list, omega arith, refl);

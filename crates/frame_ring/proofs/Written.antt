@@ -18,9 +18,9 @@ unfolding places
 length_places b = length-map-range_with_len (place_at b) 0 (places_in b)
 
 -- and it is what the place means
-pub slice_index_or-places : (b : List ℕ) (i : ℕ) (d : Report) → i < places_in b → get_or (places b) i d ≡ place_at b i
+pub get_or-places : (b : List ℕ) (i : ℕ) (d : Report) → i < places_in b → get_or (places b) i d ≡ place_at b i
 unfolding places
-slice_index_or-places b i d lt = get_or-map-range_with_len (place_at b) 0 (places_in b) i i d lt (omega arith)
+get_or-places b i d lt = get_or-map-range_with_len (place_at b) 0 (places_in b) i i d lt (omega arith)
 
 -- the 24 bytes of place i
 abbrev place : List ℕ → ℕ → List ℕ
@@ -71,9 +71,9 @@ module _ (b part : List ℕ) (i : ℕ) (lt : i < places_in b) (long : length par
       same_lists (places c) (set (places b) i r) (omega arith)
       (λ j d h. cond_both {A = ℕ} (eqb j i) 0 0 (λ _. get_or (places c) j d ≡ get_or (set (places b) i r) j d)
       (λ t. let k = eqb-true j i t in
-      ap (λ n. get_or (places c) n d) k ∙ slice_index_or-places c i d (omega arith) ∙ ap decode here ∙ means
+      ap (λ n. get_or (places c) n d) k ∙ get_or-places c i d (omega arith) ∙ ap decode here ∙ means
       ∙ sym (get_or-set_same (places b) i r d (omega arith)) ∙ ap (λ n. get_or (set (places b) i r) n d) (sym k))
-      (λ t. slice_index_or-places c j d (omega arith) ∙ ap decode (other j (eqb-false j i t)) ∙ sym (slice_index_or-places b j d (omega arith))
+      (λ t. get_or-places c j d (omega arith) ∙ ap decode (other j (eqb-false j i t)) ∙ sym (get_or-places b j d (omega arith))
       ∙ sym (get_or-set_other (places b) i j r d (eqb-false j i t))))
 
 -- the part of the bytes from 24 * i to 24 * i + 24 is a place

@@ -1,4 +1,6 @@
 // The ring of frames in lent bytes, as a report link.
+#![tactic(auto)]
+
 mod places;
 mod ring;
 

@@ -1,5 +1,7 @@
 // What every admitted call keeps, proved of the rules themselves. No code calls these functions: the contract of each is a theorem,
 // which the check so asks a proof of. The lemmas are there for the proofs of other crates.
+#![tactic(auto)]
+
 ghost use Rattle.rules.specs.Earliest.{OneEarliest};
 ghost use Rattle.rules.specs.Fit.{StaysFit, SendsLawful, EachStaysFit};
 ghost use Rattle.rules.specs.Sound.{StaysSound};

@@ -1,5 +1,7 @@
 // The law of whole runs, proved of the rules themselves. No code calls these functions: the contract of each is a theorem, which
 // the check so asks a proof of. The lemmas are there for the proofs of other crates.
+#![tactic(auto)]
+
 ghost use Rattle.law.specs.AboutRuns.{NeverStuck, Beginnings, Appends, FiringsStop};
 ghost use Rattle.law.specs.Runs.{KnownRuns};
 ghost use Rattle.law.specs.Law.{EveryRun};

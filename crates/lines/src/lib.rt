@@ -1,4 +1,6 @@
 // Lines of text about accounts and faults, written into lent bytes.
+#![tactic(auto)]
+
 mod decimal;
 mod line;
 mod put;

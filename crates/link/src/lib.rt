@@ -1,4 +1,6 @@
 // Report links: what each of them promises, and the ring of records in lent memory.
+#![tactic(auto)]
+
 mod link;
 mod records;
 

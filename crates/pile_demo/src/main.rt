@@ -1,5 +1,7 @@
 // Fills piles to the last place, empties them, and prints a line for each: how many reports went, the number that
 // the next one was refused with, and the numbers of the reports in the order in which they came out.
+#![tactic(auto)]
+
 use frame_ring::FrameRing;
 use link::Link;
 use piles::{send_all, take_all};

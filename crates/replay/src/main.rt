@@ -1,5 +1,7 @@
 // Plays a script of calls, one to a line, and prints what each did, then the accounts that the
 // reports come to.
+#![tactic(auto)]
+
 mod lines_of;
 mod numbers;
 mod play;

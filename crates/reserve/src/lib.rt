@@ -1,4 +1,6 @@
 // A layer of eight places above any report link.
+#![tactic(auto)]
+
 mod held;
 mod layer;
 

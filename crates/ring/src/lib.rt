@@ -1,4 +1,6 @@
 // A bounded queue in a row of places that the host lends, for any kind of element.
+#![tactic(auto)]
+
 mod fifo;
 mod window;
 

@@ -1,5 +1,7 @@
 // What a host can rely on that lends memory to a queue: what the memory holds once the queue is
 // gone, and that elements whose ranges are part of their type come out as they went in.
+#![tactic(auto)]
+
 ghost use Rattle.std.specs.Prelude.{◌≡◌, ◌≤◌, [], ◌∷◌, Some, None, MatchOption, slice_set};
 ghost use Rattle.ring_uses.specs.Ranges.{Within};
 

@@ -1,4 +1,6 @@
 // The rules of the calls, over values: what each call carries, when it is refused, and what it changes, sends and orders.
+#![tactic(auto)]
+
 ghost use Rattle.rules.specs.Known.{KnownOutcomes};
 
 pub mod call;

@@ -1,4 +1,6 @@
 // Tells of an input of report frames, block by block, what `tally` prints.
+#![tactic(auto)]
+
 pub mod tally;
 mod telling;
 

@@ -1,5 +1,7 @@
 // The plain table of an engine's connections: every operation and every firing by the rules. Whether a report has a free place is
 // told by the caller, so nothing here knows of a link.
+#![tactic(auto)]
+
 mod act;
 mod changes;
 mod firings;

@@ -1,4 +1,6 @@
 // Reads report frames on standard input and prints a line for each, up to the first fault.
+#![tactic(auto)]
+
 ghost use Rattle.std.specs.Prelude.{◌≤◌, length, IfSome, IfOk};
 
 use anyhow::Context;

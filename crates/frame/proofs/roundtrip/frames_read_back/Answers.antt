@@ -21,4 +21,4 @@ unfolding decode
 shown = record { admitted = refl; bytes = refl; all = all_small sample_bytes refl; sound = refl; means = refl }
 
 pub returns : goal.returns
-returns c = record { back = c.write-and-read.ensures; all = record { read = frames_read; frames = reads_are_frames; shown = shown } }
+returns c = record { back = c.write_and_read.ensures; all = record { read = frames_read; frames = reads_are_frames; shown = shown } }

@@ -4,5 +4,5 @@ use Rattle.frame.proofs.writer.write.Goals as goal
 
 pub returns : goal.returns
 returns c =
-    is_written c.args.report c.args.place.now _ (sym c.is-lawful.ensures ∙ c.if-not-is-lawful.false) (omega arith)
-    (ap (λ l. l ++ drop 24 c.args.place.now) (c.copy-from-slice.ensures.after ∙ c.to-frame-bytes.ensures))
+    is_written c.args.report c.args.place.now _ (sym c.is_lawful.ensures ∙ c.if-not-is_lawful.false) (omega arith)
+    (ap (λ l. l ++ drop 24 c.args.place.now) (c.copy_from_slice.ensures.after ∙ c.to_frame-bytes.ensures))

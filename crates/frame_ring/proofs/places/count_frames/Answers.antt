@@ -7,4 +7,4 @@ pub returns : goal.returns
 returns c =
     let b = c.args.bytes.now in
     let w = c.args.window in
-    record { is = c.filled.ensures ∙ ap (λ k. count_of k w) c.whole-places.ensures ∙ sym (length_waiting b w); sum = makes_up b w }
+    record { is = c.filled.ensures ∙ ap (λ k. count_of k w) c.whole_places.ensures ∙ sym (length_waiting b w); sum = makes_up b w }

@@ -7,22 +7,22 @@ use Rattle.lines.proofs.decimal.put_decimal.Goals.{then-left-ge10, else-left-ge1
 pub loop-left-init : goal.loop-left-init
 loop-left-init c = going_first c.args.out.now c.args.at _ c.args.n (ap (λ w. c.args.at + w) c.width.ensures.is)
 
-pub overflow-sub-out : goal.overflow-sub-out
-overflow-sub-out c = omega (arith, two_digits c.loop-left.left (omega arith) (omega arith))
+pub overflow_sub-out : goal.overflow_sub-out
+overflow_sub-out c = omega (arith, two_digits c.loop-left.left (omega arith) (omega arith))
 
-pub overflow-sub-out-in-loop-left : goal.overflow-sub-out-in-loop-left
-overflow-sub-out-in-loop-left c = omega (arith, two_digits c.loop-left.left (omega arith) (omega arith))
+pub overflow_sub-out-in-loop-left : goal.overflow_sub-out-in-loop-left
+overflow_sub-out-in-loop-left c = omega (arith, two_digits c.loop-left.left (omega arith) (omega arith))
 
-pub overflow-sub-place : goal.overflow-sub-place
-overflow-sub-place c = omega (arith, two_digits c.loop-left.left (omega arith) (omega arith))
+pub overflow_sub-place : goal.overflow_sub-place
+overflow_sub-place c = omega (arith, two_digits c.loop-left.left (omega arith) (omega arith))
 
 pub loop-left-preserved : goal.loop-left-preserved
 loop-left-preserved c =
     let l = c.loop-left in
     going_two c.args.out.now c.args.at _ c.args.n l.out l.place l.left (omega arith) (omega arith) (omega arith) l.invariant
 
-pub overflow-sub-out-then-left-ge10 : goal.overflow-sub-out-then-left-ge10
-overflow-sub-out-then-left-ge10 c = omega (arith, two_digits c.loop-left.left (omega arith) (omega arith))
+pub overflow_sub-out-then-left-ge10 : goal.overflow_sub-out-then-left-ge10
+overflow_sub-out-then-left-ge10 c = omega (arith, two_digits c.loop-left.left (omega arith) (omega arith))
 
 pub returns : goal.returns
 returns c =

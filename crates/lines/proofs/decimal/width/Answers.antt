@@ -19,10 +19,10 @@ returns-after-loop-bound c =
     let few = length-decimal-le l.digits c.args.n (omega arith) (omega (arith, l.invariant.0)) (omega arith) in
     record { is = omega (arith, l.invariant.1); few = omega arith }
 
-pub returns-in-default : goal.returns-in-default
-returns-in-default c =
+pub returns-in_default : goal.returns-in_default
+returns-in_default c =
     let l = c.loop-bound in
-    let is = many_digits l.digits l.bound l.invariant.0 l.invariant.3 c.in-default.ensures in
+    let is = many_digits l.digits l.bound l.invariant.0 l.invariant.3 c.in_default.ensures in
     let big : 10 ^ l.digits ≤ c.args.n = omega (arith, l.invariant.0) in
     let most = length_decimal_ge l.digits c.args.n (omega arith) big in
     let few = length-decimal-le 20 c.args.n (omega arith) (omega arith) (omega arith) in

@@ -8,9 +8,9 @@ pub returns : goal.returns
 returns c =
     record {
       text =
-          put_then _ _ _ _ _ _ _ _ c.put-head-a.ensures.text
-          (put_then _ _ _ _ _ _ _ _ c.put-byte-b.ensures.text
-          (put_then _ _ _ _ _ _ _ _ c.put-status-c.ensures.text
-          (put_then _ _ _ _ _ _ _ _ (put_is _ _ _ _ _ _ (ap (λ n. tariffs_text 1 n (ticks_of c.args.reading.now.account.ticks)) c.min-count.ensures) c.put-tariffs-d.ensures.text) c.put-byte.ensures.text)));
+          put_then _ _ _ _ _ _ _ _ c.put_head-a.ensures.text
+          (put_then _ _ _ _ _ _ _ _ c.put_byte-b.ensures.text
+          (put_then _ _ _ _ _ _ _ _ c.put_status-c.ensures.text
+          (put_then _ _ _ _ _ _ _ _ (put_is _ _ _ _ _ _ (ap (λ n. tariffs_text 1 n (ticks_of c.args.reading.now.account.ticks)) c.min-count.ensures) c.put_tariffs-d.ensures.text) c.put_byte.ensures.text)));
       few = omega arith;
     }

@@ -6,9 +6,9 @@ pub returns : goal.returns
 returns c =
     record {
       text =
-          put_then _ _ _ _ _ _ _ _ c.put-decimal-a.ensures.text
-          (put_then _ _ _ _ _ _ _ _ c.put-byte-b.ensures.text
-          (put_then _ _ _ _ _ _ _ _ c.put-decimal-c.ensures.text
-          (put_then _ _ _ _ _ _ _ _ c.put-text-d.ensures.text c.put-decimal.ensures.text)));
+          put_then _ _ _ _ _ _ _ _ c.put_decimal-a.ensures.text
+          (put_then _ _ _ _ _ _ _ _ c.put_byte-b.ensures.text
+          (put_then _ _ _ _ _ _ _ _ c.put_decimal-c.ensures.text
+          (put_then _ _ _ _ _ _ _ _ c.put_text-d.ensures.text c.put_decimal.ensures.text)));
       few = omega arith;
     }

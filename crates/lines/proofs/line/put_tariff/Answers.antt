@@ -6,8 +6,8 @@ pub returns : goal.returns
 returns c =
     record {
       text =
-          put_then _ _ _ _ _ _ _ _ c.put-byte-a.ensures.text
-          (put_then _ _ _ _ _ _ _ _ c.put-decimal-b.ensures.text
-          (put_then _ _ _ _ _ _ _ _ c.put-byte-c.ensures.text c.put-decimal.ensures.text));
+          put_then _ _ _ _ _ _ _ _ c.put_byte-a.ensures.text
+          (put_then _ _ _ _ _ _ _ _ c.put_decimal-b.ensures.text
+          (put_then _ _ _ _ _ _ _ _ c.put_byte-c.ensures.text c.put_decimal.ensures.text));
       few = omega arith;
     }

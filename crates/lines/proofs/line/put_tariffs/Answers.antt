@@ -12,7 +12,7 @@ pub loop-k-preserved : goal.loop-k-preserved
 loop-k-preserved c =
     let l = c.loop-k in (
       omega arith,
-      put_is _ _ _ _ _ _ (tariffs_more c.args.ticks.now l.k) (put_then _ _ _ _ _ _ _ _ l.invariant.1 c.put-tariff-place.ensures.text),
+      put_is _ _ _ _ _ _ (tariffs_more c.args.ticks.now l.k) (put_then _ _ _ _ _ _ _ _ l.invariant.1 c.put_tariff-place.ensures.text),
     )
 
 pub returns : goal.returns

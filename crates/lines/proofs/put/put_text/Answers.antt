@@ -4,4 +4,4 @@ use Rattle.lines.proofs.put.put_text.Goals as goal
 
 pub returns : goal.returns
 returns c =
-    record { text = put_copied c.args.out.now c.args.at c.args.text.now _ _ c.copy-from-slice.ensures.after (omega arith) (omega arith); few = refl }
+    record { text = put_copied c.args.out.now c.args.at c.args.text.now _ _ c.copy_from_slice.ensures.after (omega arith) (omega arith); few = refl }

@@ -13,6 +13,6 @@ returns c =
     let list = c.new.ensures.list in
     let bare = is_empty (frame_view ring) n list (frame_whole ring list) c.new.ensures.size in
     let one = fresh_above frame_view n ring c.new-layer.result bare c.new-layer.ensures.below c.new-layer.ensures.none in
-    let a = c.send-all-sending in
+    let a = c.send_all-sending in
     let both = sent_from_empty (view c.new-layer.result) (view a.new.link) (n + reserve_places) c.args.reports.now a.result.count a.result.refusal one a.ensures.sent a.ensures.stops in
     record { sent = both.0; stops = a.ensures.stops; fills = both.1; every = every_pile }

@@ -15,6 +15,6 @@ returns c =
     let one = fresh_above record_view n ring c.new-2.result bare c.new-2.ensures.below c.new-2.ensures.none in
     let two = fresh_above view (n + reserve_places) c.new-2.result c.new-pile.result one c.new-pile.ensures.below c.new-pile.ensures.none in
     let places : n + reserve_places + reserve_places ≡ n + 2 * reserve_places = omega arith in
-    let a = c.send-all-sending in
+    let a = c.send_all-sending in
     let both = sent_from_empty (layer_view view c.new-pile.result) (layer_view view a.new.link) (n + 2 * reserve_places) c.args.reports.now a.result.count a.result.refusal (two ∙ ap empty places) a.ensures.sent a.ensures.stops in
     record { sent = both.0; stops = a.ensures.stops; fills = both.1; every = every_pile }

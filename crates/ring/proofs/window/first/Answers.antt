@@ -4,4 +4,4 @@ use Rattle.ring.proofs.window.first.Goals as goal
 pub returns : goal.returns
 returns g c =
     let x = c.index-places-turn.result in
-    heads c.args.places.now c.args.window x c.in-ok-turn.turn c.in-ok-turn.ensures c.index-places-turn.is
+    heads c.args.places.now c.args.window x c.in_ok-turn.turn c.in_ok-turn.ensures c.index-places-turn.is

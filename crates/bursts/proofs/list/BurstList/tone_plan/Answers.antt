@@ -7,8 +7,8 @@ pub loop-j-preserved : goal.loop-j-preserved
 loop-j-preserved c =
     let b = c.args.self.now in
     let at = c.loop-j.at in (
-      burst_more b at c.loop-j.j _ _ c.write-burst.ensures.wrote c.loop-j.invariant.0,
-      burst_rest at b.tones _ _ _ c.write-burst.ensures.rest c.loop-j.invariant.1,
+      burst_more b at c.loop-j.j _ _ c.write_burst.ensures.wrote c.loop-j.invariant.0,
+      burst_rest at b.tones _ _ _ c.write_burst.ensures.rest c.loop-j.invariant.1,
       omega (arith, add-mul c.loop-j.j 1 b.tones, c.loop-j.invariant.2),
     )
 

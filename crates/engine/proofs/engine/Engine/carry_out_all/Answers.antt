@@ -16,9 +16,9 @@ loop-i-preserved g c =
     let l = c.loop-i in
     let xs : List CallRecord = l.records in
     let d : CallRecord = c.index-records-i.result in
-    let x : CallRecord = record { call = (get_or xs l.i d).call; reply = c.carry-out-reply.result } in
+    let x : CallRecord = record { call = (get_or xs l.i d).call; reply = c.carry_out-reply.result } in
     let lt : l.i < length xs = omega arith in
-    (run_more xs l.i d x lt refl (state view c.args.self.now) (state view l.self) (state view c.carry-out-reply.new.self) l.invariant.0 c.carry-out-reply.ensures, calls_same xs l.i d x lt refl ∙ l.invariant.1)
+    (run_more xs l.i d x lt refl (state view c.args.self.now) (state view l.self) (state view c.carry_out-reply.new.self) l.invariant.0 c.carry_out-reply.ensures, calls_same xs l.i d x lt refl ∙ l.invariant.1)
 
 pub returns : goal.returns
 returns g c =

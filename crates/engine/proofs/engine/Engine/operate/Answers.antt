@@ -8,6 +8,6 @@ pub returns : goal.returns
 returns g c =
     let view = g.L.Link.view in
     record {
-      does = admitted_at c.has-room-room.result (On c.args.tick c.args.address c.args.operation.now) c.args.self.now.table c.act.new.self c.finish.new.self.table (view c.args.self.now.link) (view c.finish.new.self.link) c.in-ok-outcome.outcome c.finish.new.order c.has-room-room.ensures c.in-ok-outcome.ensures c.finish.ensures.table c.finish.ensures.order c.finish.ensures.link;
+      does = admitted_at c.has_room-room.result (On c.args.tick c.args.address c.args.operation.now) c.args.self.now.table c.act.new.self c.finish.new.self.table (view c.args.self.now.link) (view c.finish.new.self.link) c.in_ok-outcome.outcome c.finish.new.order c.has_room-room.ensures c.in_ok-outcome.ensures c.finish.ensures.table c.finish.ensures.order c.finish.ensures.link;
       leaves = tt;
     }

@@ -9,10 +9,10 @@ loop-rest-init c = (omega arith, λ p s. so_far_first (unless_ended (tell_frames
 pub loop-rest-preserved : goal.loop-rest-preserved
 loop-rest-preserved c =
     let l = c.loop-rest in
-    let parts = c.split-at.ensures in
-    let told = c.tell-frame-at.ensures in
-    let fewer = fewer_frames l.rest.now c.split-at.result.1.now c.loop-rest-test.true parts.back_len in
-    (omega arith, λ p s. so_far_more (unless_ended (tell_frames c.args.block.now)) p c.args.out.now l.at c.tell-frame-at.result l.out c.tell-frame-at.new.out l.self c.tell-frame-at.new.self l.rest.now c.split-at.result.0.now c.split-at.result.1.now c.if-not-self.true c.loop-rest-test.true parts.front parts.back told.told (l.invariant.1 p s))
+    let parts = c.split_at.ensures in
+    let told = c.tell_frame-at.ensures in
+    let fewer = fewer_frames l.rest.now c.split_at.result.1.now c.loop-rest-test.true parts.back_len in
+    (omega arith, λ p s. so_far_more (unless_ended (tell_frames c.args.block.now)) p c.args.out.now l.at c.tell_frame-at.result l.out c.tell_frame-at.new.out l.self c.tell_frame-at.new.self l.rest.now c.split_at.result.0.now c.split_at.result.1.now c.if-not-self.true c.loop-rest-test.true parts.front parts.back told.told (l.invariant.1 p s))
 
 pub returns-after-loop-rest : goal.returns-after-loop-rest
 returns-after-loop-rest c =
