@@ -1,5 +1,5 @@
 -- Records that hold a book's open accounts, and what a write of one record makes of that. Assumes nothing.
-use Rattle.std.proofs.Common.{◌≡◌, ℕ, zero, suc, ◌+◌, ◌<◌, ◌≤◌, Bool, true, false, cond, not, eqb, ltb, leb, ◌⊎◌, List, [], ◌∷◌, length, get_or, set, replicate, is_some, Some, None, Option, sym, refl, ap, ◌∙◌, subst, inl, inr, arith}
+use Rattle.std.proofs.Common.{◌≡◌, ℕ, zero, suc, ◌+◌, ◌<◌, ◌≤◌, Bool, true, false, cond, not, ◌⊎◌, List, [], ◌∷◌, length, get_or, set, replicate, is_some, Some, None, sym, refl, ap, ◌∙◌, subst, inl, inr, arith}
 use Rattle.std.proofs.lemmas.Bool.Decides.{nat_tests}
 use Rattle.std.proofs.lemmas.Bool.{and_parts, cases_eq, cases_Bool}
 use Rattle.std.proofs.lemmas.List.{get_or-set_same, get_or-set_other, length-set, get_or-replicate}
@@ -8,7 +8,7 @@ use Rattle.report.specs.Lawful.{same, lawful_address}
 use Rattle.report.proofs.Addresses.{same_address, same_self, not_same, same_not}
 use Rattle.account.specs.declared.record.AccountRecord.{AccountRecord}
 use Rattle.report.specs.Limits.{open_accounts}
-use Rattle.account.specs.Rule.{Account, Slot, Book, no_accounts, bit_of, many, is_open, written}
+use Rattle.account.specs.Rule.{Slot, Book, no_accounts, bit_of, many, is_open, written}
 use Rattle.account.specs.Records.{closed_record, no_record, open_record, open_for, is_closed, account_of, place, has}
 use Rattle.account.specs.Follow.{opens, LieIn, Holds}
 use Rattle.account.proofs.Many.{many_change}

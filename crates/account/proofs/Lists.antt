@@ -1,5 +1,5 @@
 -- Lists of reports, read one after another. Assumes nothing.
-use Rattle.std.proofs.Common.{◌≡◌, ℕ, suc, ◌+◌, ◌<◌, List, [], ◌∷◌, ◌++◌, length, get_or, take, drop, Ok, Err, Result, sym, refl, ap, ◌∙◌, subst, arith}
+use Rattle.std.proofs.Common.{◌≡◌, ℕ, ◌+◌, ◌<◌, List, [], ◌∷◌, ◌++◌, length, get_or, take, drop, Ok, Err, Result, sym, refl, ap, ◌∙◌, subst}
 use Rattle.std.proofs.lemmas.List.{take_more, drop_more, take-append-drop}
 use Rattle.report.specs.declared.report.Report.{Report}
 use Rattle.report.specs.declared.refusal.Refusal.{Refusal}
@@ -8,7 +8,7 @@ use Rattle.account.specs.declared.record.Reading.{Reading}
 use Rattle.account.specs.declared.record.Stop.{Stop}
 use Rattle.account.specs.Rule.{Book, read_one, then_read, read_list}
 use Rattle.account.specs.Records.{said, Answers, Leaves}
-use Rattle.account.specs.Follow.{Holds, Follows, no_report, Through, done, more, ReadsAt, Stopped, Reads, FollowsAll}
+use Rattle.account.specs.Follow.{Holds, no_report, Through, done, more, ReadsAt, Stopped, Reads, FollowsAll}
 use Rattle.account.proofs.Ruling.{follows}
 
 -- one report more

@@ -1,5 +1,5 @@
 -- The place of the first record that passes. Assumes nothing.
-use Rattle.std.proofs.Common.{◌≡◌, ℕ, suc, ◌+◌, ◌<◌, ◌≤◌, Bool, true, false, cond, List, [], ◌∷◌, length, get_or, drop, Some, sym, refl, ap, ◌∙◌, arith, length-take}
+use Rattle.std.proofs.Common.{◌≡◌, ℕ, suc, ◌+◌, ◌<◌, ◌≤◌, Bool, true, false, cond, List, length, get_or, drop, Some, sym, ap, ◌∙◌, arith, length-take}
 use Rattle.std.proofs.lemmas.List.{at_drop_more, at_drop_all, get_or-take}
 use Rattle.report.specs.Limits.{open_accounts}
 use Rattle.account.specs.declared.record.AccountRecord.{AccountRecord}
@@ -7,7 +7,7 @@ use Rattle.std.proofs.lemmas.Bool.Decides.{nat_tests}
 use Rattle.report.proofs.Addresses.{same_address}
 use Rattle.report.specs.declared.report.Address.{Address}
 use Rattle.report.specs.Lawful.{same}
-use Rattle.account.specs.Records.{no_record, place, counting, open_record, open_for, has, OpenAt}
+use Rattle.account.specs.Records.{no_record, place, counting, open_record, open_for, OpenAt}
 
 module _ (p : AccountRecord → Bool) (xs : List AccountRecord) (i : ℕ) where
   -- the step of a search that has come to the record at i

@@ -1,20 +1,19 @@
 -- A report that is read at records is read by the account rule. Assumes nothing.
-use Rattle.std.proofs.Common.{◌≡◌, ℕ, zero, suc, ◌+◌, ◌<◌, ◌≤◌, Bool, true, false, cond, not, eqb, ltb, leb, ◌⊎◌, List, [], ◌∷◌, length, get_or, take, set, is_some, Some, None, Ok, Err, Option, Result, sym, refl, ap, ◌∙◌, subst, inl, inr, arith, length-take}
-use Rattle.std.proofs.lemmas.Bool.Decides.{nat_tests}
+use Rattle.std.proofs.Common.{◌≡◌, ℕ, zero, suc, ◌+◌, ◌<◌, ◌≤◌, Bool, true, false, cond, not, eqb, leb, List, [], ◌∷◌, length, get_or, take, set, is_some, Some, None, Ok, Err, Option, Result, sym, refl, ap, ◌∙◌, subst, inl, inr, arith, length-take}
 use Rattle.std.proofs.lemmas.Bool.{and_parts, and_from, and_left, cases_Bool, cond-true, cond-false, ltb-true, lt-leb, le-leb}
 use Rattle.std.proofs.lemmas.List.{length-set}
 use Rattle.report.specs.declared.report.Address.{Address}
 use Rattle.report.specs.declared.report.Report.{Report}
 use Rattle.report.specs.declared.refusal.Refusal.{Refusal}
 use Rattle.report.specs.declared.refusal.Refusal.TheVariants.{OutOfRange, AccountRule, AccountsFull}
-use Rattle.report.specs.Lawful.{same, lawful_address, lawful, is_active}
+use Rattle.report.specs.Lawful.{same, lawful, is_active}
 use Rattle.report.specs.Limits.{open_accounts}
 use Rattle.report.proofs.Addresses.{same_address, same_self, lawful_there}
 use Rattle.account.specs.declared.record.AccountRecord.{AccountRecord}
 use Rattle.account.specs.declared.record.Status.{Status}
 use Rattle.account.specs.declared.record.Status.TheVariants.{Open, Closed, Repeat}
 use Rattle.account.specs.declared.record.Reading.{Reading}
-use Rattle.account.specs.Rule.{Account, opened, read, numbered, Slot, Book, many, is_open, written, settled, going_on, opening, by_open, read_one}
+use Rattle.account.specs.Rule.{Account, opened, read, numbered, Slot, Book, many, is_open, written, settled, going_on, opening, by_open}
 use Rattle.account.specs.Records.{closed_record, no_record, open_record, open_for, is_closed, account_of, counting, place, has, place_for, Said, status_of, said_of_left, said_of_open, said_of_first, if_free, said_in, said, says, kept, Answers, Leaves}
 use Rattle.account.specs.Follow.{opens, LieIn, Holds, newest, status_at, Follows}
 use Rattle.account.proofs.Holding.{differ, has_none, has_at, opens_full, opens_less, lie_in_after}

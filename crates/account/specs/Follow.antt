@@ -1,12 +1,12 @@
 -- The records and the account rule: what the records hold of a book of accounts, and that a report is read as the rule has it. Assumes nothing.
-use Rattle.std.specs.Prelude.{◌≡◌, ℕ, ◌+◌, ◌<◌, ◌≤◌, Bool, true, false, cond, List, [], ◌∷◌, length, take, Some, None, Ok, Err, Option, Result, ◌==◌, slice_index_or}
+use Rattle.std.specs.Prelude.{◌≡◌, ℕ, ◌+◌, ◌<◌, ◌≤◌, true, false, cond, List, [], ◌∷◌, length, take, Some, None, Ok, Err, Option, Result, ◌==◌, slice_index_or}
 use Rattle.report.specs.declared.report.Address.{Address}
 use Rattle.report.specs.declared.report.Report.{Report}
 use Rattle.report.specs.declared.refusal.Refusal.{Refusal}
 use Rattle.report.specs.Limits.{open_accounts}
 use Rattle.account.specs.declared.record.AccountRecord.{AccountRecord}
 use Rattle.account.specs.declared.record.Status.{Status}
-use Rattle.account.specs.declared.record.Status.TheVariants.{Open, Closed, Repeat}
+use Rattle.account.specs.declared.record.Status.TheVariants.{Repeat}
 use Rattle.account.specs.declared.record.Reading.{Reading}
 use Rattle.account.specs.declared.record.Stop.{Stop}
 use Rattle.account.specs.Rule.{Account, Slot, Book, bit_of, many, is_open, read_one, read_list, accounts_at}

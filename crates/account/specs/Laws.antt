@@ -1,5 +1,5 @@
 -- What the account rule comes to, whatever the reports. Assumes nothing.
-use Rattle.std.specs.Prelude.{◌≡◌, ℕ, ◌≤◌, Bool, true, false, ◌⊎◌, List, [], ◌∷◌, replicate, Some, None, Ok, Err, Option, Result}
+use Rattle.std.specs.Prelude.{◌≡◌, ℕ, ◌≤◌, true, false, ◌⊎◌, List, [], ◌∷◌, replicate, Some, None, Ok, Err, Option, Result}
 use Rattle.report.specs.declared.report.Address.{Address}
 use Rattle.report.specs.declared.report.Standing.{Standing}
 use Rattle.report.specs.declared.report.Standing.TheVariants.{Active, Ended}

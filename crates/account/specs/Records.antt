@@ -1,5 +1,5 @@
 -- Accounts in records of the host's: what every record means, and what reading a report does to them. Assumes nothing.
-use Rattle.std.specs.Prelude.{◌≡◌, ℕ, suc, ◌+◌, ◌<◌, ◌≤◌, Bool, true, false, cond, not, ◌&&◌, List, [], ◌∷◌, length, take, replicate, Some, None, Ok, Err, Option, Result, ◌==◌, nat_lt, slice_index, slice_index_or, slice_set}
+use Rattle.std.specs.Prelude.{◌≡◌, ℕ, suc, ◌+◌, ◌<◌, Bool, true, false, cond, not, ◌&&◌, List, [], ◌∷◌, length, take, replicate, Some, None, Ok, Err, Option, Result, ◌==◌, nat_lt, slice_index, slice_index_or, slice_set}
 use Rattle.report.specs.declared.report.Address.{Address}
 use Rattle.report.specs.declared.report.Report.{Report}
 use Rattle.report.specs.declared.refusal.Refusal.{Refusal}
@@ -10,10 +10,9 @@ use Rattle.account.specs.declared.record.AccountRecord.{AccountRecord}
 use Rattle.account.specs.declared.record.Status.{Status}
 use Rattle.account.specs.declared.record.Status.TheVariants.{Open, Closed, Repeat}
 use Rattle.account.specs.declared.record.Reading.{Reading}
-use Rattle.account.specs.declared.record.Stop.{Stop}
 use Rattle.account.specs.declared.reading.Sought.{Sought}
 use Rattle.account.specs.declared.reading.Sought.TheVariants.{OpenFor, Closed as SoughtClosed}
-use Rattle.account.specs.Rule.{Account, opened, read, numbered, Slot, Book, bit_of, many, is_open, read_one, read_list, accounts_at}
+use Rattle.account.specs.Rule.{Account, opened, read, numbered}
 
 -- the record that closing an account leaves
 abbrev pub closed_record : AccountRecord

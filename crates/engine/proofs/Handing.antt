@@ -1,5 +1,5 @@
 -- An admitted call, and its report handed to the link. Assumes nothing.
-use Rattle.std.proofs.Common.{◌≡◌, ℕ, ◌<◌, Bool, true, false, cond, ltb, List, [], ◌∷◌, length, Some, None, Ok, Err, Option, Result, sym, refl, ap, ◌∙◌, subst, arith}
+use Rattle.std.proofs.Common.{◌≡◌, ◌<◌, Bool, true, false, cond, ltb, List, [], length, Some, None, Ok, Err, Option, Result, sym, refl, ap, ◌∙◌, subst, arith}
 use Rattle.std.proofs.lemmas.List.{nil_from_length}
 use Rattle.std.proofs.lemmas.Bool.Decides.{nat_tests}
 use Rattle.report.specs.declared.refusal.Refusal.{Refusal}
@@ -11,11 +11,10 @@ use Rattle.link.specs.Links.{View, with_one_more, Sends}
 use Rattle.rules.specs.declared.call.Call.{Call}
 use Rattle.rules.specs.declared.call.Order.{Order}
 use Rattle.rules.specs.declared.call.Reply.TheVariants.{Done}
-use Rattle.rules.specs.Core.{Core}
 use Rattle.rules.specs.Fit.{Sendable}
 use Rattle.rules.specs.Reports.{listed}
 use Rattle.rules.specs.Rules.{rule}
-use Rattle.rules.specs.Steps.{State, Delivers, Follows}
+use Rattle.rules.specs.Steps.{Delivers, Follows}
 use Rattle.table.specs.declared.place.Outcome.{Outcome}
 use Rattle.table.specs.declared.table.Table.{Table}
 use Rattle.table.specs.State.{core_of, FollowsRule}

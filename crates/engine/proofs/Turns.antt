@@ -1,6 +1,6 @@
 -- Calls in their turn. Assumes nothing.
-use Rattle.std.proofs.Common.{◌≡◌, ℕ, ◌+◌, ◌<◌, ◌≤◌, List, [], ◌∷◌, ◌++◌, map, length, get_or, take, set, sym, refl, ap, ◌∙◌, subst, arith}
-use Rattle.std.proofs.lemmas.List.{take_more_set, map-append, map-set, length-map, set-get_or, get_or-map, take_all}
+use Rattle.std.proofs.Common.{◌≡◌, ℕ, ◌+◌, ◌<◌, List, [], ◌∷◌, ◌++◌, length, get_or, take, set, sym, ap, ◌∙◌, subst}
+use Rattle.std.proofs.lemmas.List.{take_more_set, map-append, map-set, set-get_or, get_or-map}
 use Rattle.rules.specs.declared.call.Call.{Call}
 use Rattle.rules.specs.declared.call.Reply.{Reply}
 use Rattle.rules.specs.Steps.{State, Does, Run, over, then}

@@ -1,5 +1,5 @@
 -- The flag byte of a frame. Assumes nothing.
-use Rattle.std.specs.Prelude.{ℕ, ◌+◌, ◌/◌, ◌%◌, ◌^◌, Bool, true, false, cond, not, ◌&&◌, ◌||◌, Some, None, Option, ◌==◌, nat_le, nat_lt}
+use Rattle.std.specs.Prelude.{ℕ, ◌+◌, ◌/◌, ◌%◌, ◌^◌, Bool, cond, not, ◌&&◌, ◌||◌, Some, None, Option, ◌==◌, nat_le, nat_lt}
 use Rattle.report.specs.declared.report.Elapsed.{Elapsed}
 use Rattle.report.specs.declared.report.Elapsed.TheVariants.{Plain, Switched}
 use Rattle.report.specs.declared.report.Standing.{Standing}

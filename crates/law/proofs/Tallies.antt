@@ -6,7 +6,7 @@ use Rattle.report.specs.Limits.{tariffs}
 use Rattle.account.specs.Rule.{Account, upd, becomes, read, opened, total}
 use Rattle.rules.specs.Times.{elapsed_by}
 use Rattle.law.specs.Ticks.{passed, tally}
-use Rattle.invariants.proofs.Basics.{differ, none_some}
+use Rattle.invariants.proofs.Basics.{differ}
 
 -- the switches counted, the later of answer and last switch, and the interval to report
 pub record Metered : Type 0 where

@@ -2,8 +2,8 @@
 use Rattle.std.proofs.Common.{◌≡◌, ℕ, zero, suc, ◌+◌, ◌-◌, ◌*◌, ◌/◌, ◌%◌, ◌^◌, ◌<◌, ◌≤◌, List, [], ◌∷◌, ◌++◌, length, take, drop, set, decimal, sym, refl, ap, ◌∙◌, subst, inl, inr, append_assoc, append-nil, pow-suc, add-one, arith}
 use Rattle.std.proofs.lemmas.Bool.{cases_lt}
 use native.Mathlib.Nat.{one-le-pow, pow-le-pow_right}
-use Rattle.std.proofs.lemmas.Fmt.{decimal_step, decimal_digit, decimal_nonempty, length-decimal-le}
-use Rattle.std.proofs.lemmas.List.{drop-set, drop-drop, drop-set-lt, take-set-le, length_push, length-set, length-append, take-append-drop, take-take}
+use Rattle.std.proofs.lemmas.Fmt.{decimal_step, decimal_digit, decimal_nonempty}
+use Rattle.std.proofs.lemmas.List.{drop-set, drop-set-lt, take-set-le, length_push, length-set, take-append-drop, take-take}
 use Rattle.std.proofs.lemmas.Slice.{between_is}
 use Rattle.lines.specs.Put.{Put}
 

@@ -1,5 +1,5 @@
 -- One tariff more at the end. Assumes nothing.
-use Rattle.std.proofs.Common.{◌≡◌, ℕ, zero, suc, ◌+◌, List, [], ◌∷◌, ◌++◌, get_or, sym, refl, ap, ◌∙◌, append_assoc, append-nil, add-zero, add_comm, add-one, arith}
+use Rattle.std.proofs.Common.{◌≡◌, ℕ, zero, suc, ◌+◌, List, ◌++◌, get_or, sym, ap, ◌∙◌, append_assoc, append-nil, add_comm, add-one, arith}
 use Rattle.account.specs.Records.{ticks_of}
 use Rattle.lines.specs.Line.{tariff_text, tariffs_text}
 

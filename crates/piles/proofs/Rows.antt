@@ -1,12 +1,11 @@
 -- Rows of reports through a link: one more, and where it stops. Assumes nothing.
-use Rattle.std.proofs.Common.{◌≡◌, ℕ, ◌+◌, ◌-◌, ◌<◌, ◌≤◌, min, true, List, [], ◌∷◌, ◌++◌, length, get_or, take, drop, set, Ok, Err, sym, refl, ap, ◌∙◌, subst, append_assoc, append-nil, arith, length-append, length-set, length-take}
+use Rattle.std.proofs.Common.{◌≡◌, ℕ, ◌+◌, ◌-◌, ◌<◌, min, true, List, [], ◌∷◌, ◌++◌, length, get_or, take, drop, set, Ok, Err, sym, ap, ◌∙◌, subst, append_assoc, arith, length-append, length-set, length-take}
 use Rattle.std.proofs.ByRecursion.{All-push}
 use Rattle.std.proofs.lemmas.List.{take_more, drop_more, take_more_set, drop-drop, drop-set-lt, set-get_or}
 use Rattle.report.specs.declared.refusal.Refusal.{Refusal}
 use Rattle.report.specs.declared.report.Report.{Report}
 use Rattle.report.specs.Lawful.{lawful}
 use Rattle.link.specs.Links.{View, with_one_more, Sends, Takes}
-use Rattle.reserve.specs.Lies.{AllLawful}
 use Rattle.piles.specs.Batches.{with_first, SentFirst, RefusedNext, TookFirst}
 
 -- one more is sent

@@ -1,5 +1,5 @@
 -- Links that are filled to the last place, and emptied; and the piles among them. Assumes nothing.
-use Rattle.std.proofs.Common.{◌≡◌, ℕ, ◌+◌, ◌-◌, ◌<◌, ◌≤◌, min, true, cond, ltb, List, [], ◌∷◌, ◌++◌, length, take, Some, None, Option, sym, refl, ap, ◌∙◌, subst, append-nil, arith, length-append, length-drop, length-take}
+use Rattle.std.proofs.Common.{◌≡◌, ℕ, ◌+◌, ◌-◌, ◌<◌, ◌≤◌, min, true, cond, ltb, List, [], ◌++◌, length, take, Some, None, Option, sym, refl, ap, ◌∙◌, subst, append-nil, arith, length-append, length-drop, length-take}
 use Rattle.std.proofs.ByRecursion.{All-drop}
 use Rattle.std.proofs.lemmas.List.{nil_from_length}
 use Rattle.std.proofs.lemmas.Bool.{cond-true, cond-false, lt-ltb, le-ltb}
@@ -13,7 +13,7 @@ use Rattle.frame_ring.specs.Ring.{frame_whole}
 use Rattle.reserve.specs.declared.layer.Reserve.{Reserve}
 use Rattle.reserve.specs.Lies.{reserve_places, kept, stacked, layer_view, layer_whole, AllLawful}
 use Rattle.piles.specs.Batches.{SentFirst, RefusedNext, Stops, TookFirst, empty, Fills, Empties}
-use Rattle.piles.specs.Piles.{Kind, Pile, pile_view, pile_places, Learns, EveryPile, EachPileStands}
+use Rattle.piles.specs.Piles.{Kind, Pile, pile_view, pile_places, Learns, EachPileStands}
 use Rattle.piles.specs.Piles.Kind.{records, frames, above}
 use Rattle.piles.proofs.Kept.{keeps_all}
 

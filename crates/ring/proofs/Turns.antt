@@ -1,5 +1,5 @@
 -- What a write behind a queue and a read at its front do to the list that the window means. Assumes nothing.
-use Rattle.std.proofs.Common.{◌≡◌, ℕ, suc, ◌+◌, ◌-◌, ◌<◌, ◌≤◌, ltb, List, [], ◌∷◌, ◌++◌, length, get_or, take, drop, set, sym, refl, ap, ◌∙◌, append_assoc, append-nil, arith, length-append, length-drop, length-set, length-take, length-take-le, drop-set-lt}
+use Rattle.std.proofs.Common.{◌≡◌, ℕ, suc, ◌+◌, ◌-◌, ◌<◌, ◌≤◌, ltb, List, [], ◌∷◌, ◌++◌, length, get_or, take, drop, set, sym, ap, ◌∙◌, append_assoc, append-nil, arith, length-append, length-drop, length-set, length-take, length-take-le, drop-set-lt}
 use lib.Seq.{take-append-le, set-append_left, drop-set-add, take-set-lt, take-set-le}
 use Rattle.std.proofs.lemmas.List.{length_push, take_more_set, drop_more, take_more, set-append_right, drop_all, take_all}
 use Rattle.std.proofs.lemmas.Bool.{cond_both, cond_below, ltb-true, ltb-false}

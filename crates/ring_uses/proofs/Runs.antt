@@ -1,10 +1,10 @@
 -- What follows from the answers of a queue that has room, or something waiting. Assumes nothing.
-use Rattle.std.proofs.Common.{◌≡◌, ℕ, ◌+◌, ◌<◌, List, [], ◌∷◌, ◌++◌, length, set, Some, None, Ok, Err, Option, Result, sym, ap, ◌∙◌, arith, MatchOption, MatchResult}
+use Rattle.std.proofs.Common.{◌≡◌, ℕ, ◌+◌, ◌<◌, List, length, set, Some, None, Ok, Err, Option, Result, sym, ap, ◌∙◌, arith, MatchOption, MatchResult}
 use Rattle.std.proofs.lemmas.List.{length_push, nil_from_length}
 use Rattle.ring.specs.declared.fifo.Fifo.{Fifo}
 use Rattle.ring.specs.declared.fifo.Full.{Full}
 use Rattle.ring.specs.Slots.{after}
-use Rattle.ring.specs.Queue.{waiting, capacity, memory, next_slot, Pushed, NotPushed, Popped, NotPopped}
+use Rattle.ring.specs.Queue.{waiting, memory, next_slot, Pushed, NotPushed, Popped, NotPopped}
 
 module _ {T : Type 0} where
   -- the queue in memory ys holds n elements, and the next one is written at i

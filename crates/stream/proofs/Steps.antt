@@ -1,22 +1,21 @@
 -- What is told of a report and of a frame. Assumes nothing.
-use Rattle.std.proofs.Common.{◌≡◌, ℕ, ◌+◌, ◌-◌, ◌^◌, min, Bool, true, false, cond, List, [], ◌∷◌, ◌++◌, length, Some, None, Ok, Err, Option, Result, unwrap_or, sym, refl, ap, ◌∙◌, subst}
+use Rattle.std.proofs.Common.{◌≡◌, ℕ, ◌+◌, ◌-◌, ◌^◌, min, true, List, length, Ok, Err, Option, unwrap_or, sym, refl, ap, ◌∙◌, subst}
 use Rattle.report.specs.Refusals.{returned, wrong_at}
 use Rattle.report.specs.declared.report.Report.{Report}
 use Rattle.report.specs.declared.refusal.Cause.{Cause}
 use Rattle.report.specs.declared.refusal.Refusal.{Refusal}
 use Rattle.report.specs.declared.refusal.Refusal.TheVariants.{WrongFrame}
-use Rattle.frame.specs.Frame.{frame_size, first_fault, decode, FrameRead, FrameRefused}
-use Rattle.account.specs.Rule.{Account, Book, read_one}
+use Rattle.frame.specs.Frame.{frame_size, FrameRead, FrameRefused}
+use Rattle.account.specs.Rule.{read_one}
 use Rattle.account.specs.Records.{account_of}
-use Rattle.account.specs.Follow.{Holds, Follows, newest, status_at}
+use Rattle.account.specs.Follow.{Holds, Follows, status_at}
 use Rattle.account.specs.declared.record.AccountRecord.{AccountRecord}
 use Rattle.account.specs.declared.record.Reading.{Reading}
-use Rattle.account.specs.declared.record.Status.{Status}
 use Rattle.lines.specs.Line.{line_text, fault_text}
 use Rattle.lines.specs.Put.{Put}
 use Rattle.lines.specs.declared.line.Layer.TheVariants.{Frame as FrameLayer, Account as AccountLayer}
 use Rattle.stream.specs.declared.tally.Tally.{Tally}
-use Rattle.stream.specs.Told.{Progress, Told, further, faulted, reading_text, after_rule, after_reader, tell_one}
+use Rattle.stream.specs.Told.{Progress, further, reading_text, after_rule, after_reader, tell_one}
 use Rattle.stream.specs.Stands.{Stands, Puts}
 
 module _ (t : Tally) (p : Progress) (r : Report) (new : List AccountRecord) (old out : List ℕ) (at end : ℕ) (now-at : Stands t p) where

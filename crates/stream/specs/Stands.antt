@@ -1,5 +1,5 @@
 -- The tally in memory, and where it stands in an input. Assumes nothing.
-use Rattle.std.specs.Prelude.{◌≡◌, ℕ, ◌+◌, ◌*◌, ◌<◌, ◌≤◌, true, false, List, length, take, drop, replicate, Some, None, Option}
+use Rattle.std.specs.Prelude.{◌≡◌, ℕ, ◌*◌, ◌<◌, ◌≤◌, false, List, length, take, drop, replicate, Some, None, Option}
 use Rattle.report.specs.Limits.{open_accounts}
 use Rattle.account.specs.Records.{closed_record}
 use Rattle.account.specs.Follow.{Holds}

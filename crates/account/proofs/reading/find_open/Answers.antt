@@ -1,4 +1,3 @@
-use Rattle.std.proofs.Common.{arith}
 use Rattle.account.proofs.Places.{open_there}
 use Rattle.account.proofs.reading.find_open.Goals as goal
 

@@ -1,4 +1,4 @@
-use Rattle.std.proofs.Common.{◌≡◌, ◌+◌, [], ◌∷◌, ◌++◌, ap, ◌∙◌}
+use Rattle.std.proofs.Common.{◌≡◌, ◌+◌, ◌∷◌, ◌++◌, ap, ◌∙◌}
 use Rattle.frame.specs.Bytes.{le32}
 use Rattle.frame.specs.Flags.{flags_of}
 use Rattle.frame.proofs.Places.{listing}

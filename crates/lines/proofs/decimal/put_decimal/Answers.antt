@@ -1,6 +1,6 @@
-use Rattle.std.proofs.Common.{◌≡◌, ◌+◌, ◌≤◌, length, set, decimal, ap, ◌∙◌, arith}
+use Rattle.std.proofs.Common.{◌+◌, ◌≤◌, length, set, decimal, ap, arith}
 use Rattle.lines.specs.Put.{Put}
-use Rattle.lines.proofs.Digits.{Going, going_first, going_two, going_last_two, going_last_one, two_digits}
+use Rattle.lines.proofs.Digits.{going_first, going_two, going_last_two, going_last_one, two_digits}
 use Rattle.lines.proofs.decimal.put_decimal.Goals as goal
 use Rattle.lines.proofs.decimal.put_decimal.Goals.{then-left-ge10, else-left-ge10}
 

@@ -1,4 +1,4 @@
-use Rattle.std.proofs.Common.{◌≡◌, ◌+◌, ◌*◌, ◌^◌, ◌<◌, ◌≤◌, length, decimal, sym, refl, ◌∙◌, arith}
+use Rattle.std.proofs.Common.{◌^◌, ◌≤◌, refl, ◌∙◌, arith}
 use Rattle.std.proofs.lemmas.Fmt.{decimal_nonempty, length-decimal-le}
 use Rattle.lines.proofs.Digits.{length_decimal_ge, pow_more, few_digits, many_digits}
 use Rattle.lines.proofs.decimal.width.Goals as goal

@@ -1,6 +1,4 @@
-use Rattle.std.proofs.Common.{◌≡◌, sym, subst}
 use Rattle.rules.specs.declared.call.Call.TheVariants.{Fire}
-use Rattle.engine.specs.Answers.{Hands}
 use Rattle.engine.proofs.Handing.{admitted_at}
 use Rattle.engine.proofs.engine.Engine.fire.Goals as goal
 

@@ -1,6 +1,6 @@
 use Rattle.std.proofs.Common.{◌+◌, arith}
 use Rattle.reserve.specs.Lies.{lies}
-use Rattle.reserve.proofs.Layers.{moved_none, moved_more, settled_there}
+use Rattle.reserve.proofs.Layers.{moved_more, settled_there}
 use Rattle.reserve.proofs.layer.Reserve.settle.Goals as goal
 
 pub loop-preserved : goal.loop-preserved
