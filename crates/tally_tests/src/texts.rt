@@ -40,7 +40,7 @@ fn lines_of_an_account(rt: HostRuntime) {
     let mut tally = Tally::new();
     let mut page = [0u8; 800];
     let first = frame_of(1, Standing::Active, Elapsed::Plain(600));
-    assert!(rt; told(&mut tally, &first, &mut page) == b"1.2 #1 open 1:600\n");
+    assert!(rt; told(&mut tally, &first, &mut page) == b"1.2 #1 open 1:600\n".as_slice());
     let second = frame_of(
         2,
         Standing::Released,
@@ -49,8 +49,8 @@ fn lines_of_an_account(rt: HostRuntime) {
             interval: Some(800),
         },
     );
-    assert!(rt; told(&mut tally, &second, &mut page) == b"1.2 #2 closed 1:800 2:450\n");
-    assert!(rt; told(&mut tally, &second, &mut page) == b"fault account 16 48\n");
+    assert!(rt; told(&mut tally, &second, &mut page) == b"1.2 #2 closed 1:800 2:450\n".as_slice());
+    assert!(rt; told(&mut tally, &second, &mut page) == b"fault account 16 48\n".as_slice());
     assert!(rt; tally.has_ended());
     assert!(rt; told(&mut tally, &first, &mut page).is_empty());
 }
@@ -61,7 +61,7 @@ fn a_wrong_frame_ends_the_text(rt: HostRuntime) {
     let mut page = [0u8; 800];
     let mut wrong = frame_of(1, Standing::Active, Elapsed::Plain(600));
     wrong[8] = 9;
-    assert!(rt; told(&mut tally, &wrong, &mut page) == b"fault frame 15 8\n");
+    assert!(rt; told(&mut tally, &wrong, &mut page) == b"fault frame 15 8\n".as_slice());
     assert_eq!(rt; tally.tell_rest(&wrong, &mut page), Some(0));
 }
 
