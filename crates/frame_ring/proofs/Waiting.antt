@@ -13,7 +13,7 @@ use Rattle.link.specs.Links.{Sends, MakesUp}
 use Rattle.frame_ring.specs.Places.{places_in, place_at, places, Filled}
 use Rattle.frame_ring.specs.Frames.{waiting, bytes_view, Appended, NotAppended, NotSent, First}
 use Rattle.frame_ring.specs.Ring.{memory, frame_view, frame_whole, next_slot, Sent}
-use Rattle.frame_ring.specs.declared.ring.FrameRing.{FrameRing}
+use Rattle.frame_ring.specs.declared.queue.FrameRing.{FrameRing}
 use Rattle.frame_ring.proofs.Written.{length_places, get_or-places}
 
 -- as many wait as the window says

@@ -4,7 +4,7 @@ use Rattle.std.proofs.Common.{ap, arith}
 use Rattle.report.specs.declared.report.Report.{Report}
 use Rattle.link.specs.Links.{View}
 use Rattle.frame_ring.specs.Frames.{bytes_view, next_place, Wrote, Freed}
-use Rattle.frame_ring.specs.declared.ring.FrameRing.{FrameRing}
+use Rattle.frame_ring.specs.declared.queue.FrameRing.{FrameRing}
 
 -- the lent bytes
 abbrev pub memory : FrameRing → List ℕ

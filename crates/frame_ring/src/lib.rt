@@ -2,6 +2,6 @@
 #![tactic(auto)]
 
 mod places;
-mod ring;
+mod queue;
 
-pub use ring::{FrameRing, send_once};
+pub use queue::{FrameRing, send_once};

@@ -6,7 +6,7 @@ use Rattle.ring.specs.declared.fifo.Fifo.{Fifo}
 use Rattle.ring.specs.Queue.{capacity}
 use Rattle.link.specs.Links.{View}
 use Rattle.link.specs.Records.{record_view}
-use Rattle.frame_ring.specs.declared.ring.FrameRing.{FrameRing}
+use Rattle.frame_ring.specs.declared.queue.FrameRing.{FrameRing}
 use Rattle.frame_ring.specs.Places.{places_in}
 use Rattle.frame_ring.specs.Ring.{memory, frame_view}
 use Rattle.reserve.specs.declared.layer.Reserve.{Reserve}

@@ -1,7 +1,7 @@
 -- Where the reports of a reserve lie, and how they move. Assumes nothing.
 use Rattle.std.specs.Prelude.{◌≡◌, ℕ, zero, suc, ◌+◌, ◌-◌, ◌<◌, ◌≤◌, min, Bool, true, false, cond, ◌&&◌, ◌⊎◌, List, [], ◌∷◌, ◌++◌, length, take, drop, Ok, ◌==◌, nat_lt, refl}
 use Rattle.std.proofs.Common.{ap, arith}
-use Rattle.std.specs.List.{AllByRecursion as All}
+use Rattle.std.specs.List.{AllByRecursion}
 use Rattle.report.specs.declared.report.Report.{Report}
 use Rattle.report.specs.Lawful.{lawful}
 use Rattle.ring.specs.Slots.{list}
@@ -59,7 +59,7 @@ moving s = min s.below.free (length s.held)
 
 -- every one of the reports is within the frame's rules
 abbrev pub AllLawful : List Report → Type 0
-AllLawful rs = All (λ r. lawful r ≡ true) rs
+AllLawful rs = AllByRecursion (λ r. lawful r ≡ true) rs
 
 -- the oldest held report goes down into a free place
 pub record Moves (s t : Lies) : Type 0 where

@@ -1,6 +1,6 @@
 use Rattle.std.proofs.Common.{rules}
 use Rattle.std.proofs.lemmas.Result.{err_from_is_err_and}
-use Rattle.frame_ring.proofs.ring.FrameRingLink.send.Goals as goal
+use Rattle.frame_ring.proofs.queue.FrameRingLink.send.Goals as goal
 
 pub returns-in_err-next : goal.returns-in_err-next
 returns-in_err-next c =

@@ -1,6 +1,6 @@
 use Rattle.std.proofs.Common.{rules}
 use Rattle.frame_ring.proofs.Waiting.{sent-once}
-use Rattle.frame_ring.proofs.ring.send_once.Goals as goal
+use Rattle.frame_ring.proofs.queue.send_once.Goals as goal
 
 pub returns : goal.returns
 returns c =
