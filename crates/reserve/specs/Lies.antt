@@ -82,7 +82,7 @@ pub record Settles (s t : Lies) : Type 0 where
   pub whole : AllLawful s.held → count ≡ moving s
 
 -- r comes out, of those below or of the held ones
-abbrev pub Drawn : (from-below : Bool) → Lies → Report → Lies → Type 0
+abbrev pub Drawn : (from_below : Bool) → Lies → Report → Lies → Type 0
 Drawn true s r t = Takes s.below (Ok r) t.below × (t.held ≡ s.held)
 Drawn false s r t = (t.below ≡ s.below) × (s.held ≡ r ∷ t.held)
 

@@ -35,7 +35,7 @@ core_of t = held t.clock t.wait t.slots
 abbrev pub moved : ℕ → Address → Option Connection → Core → Core
 moved t a o s = record { clock = t; wait = s.wait; at = put s.at a o; count = (s.count + bit o) - bit (s.at a) }
 
--- the rows that every operation begins with; in-range is whether its values are within their ranges
+-- the rows that every operation begins with; in_range is whether its values are within their ranges
 abbrev pub heads : ℕ → Address → Bool → Core → List (Bool × Refusal)
 heads t a in_range s = untimely t s ∷ (not (lawful_address a && in_range), OutOfRange) ∷ (is_some (earliest (dues_at s) t), ItemDue) ∷ []
 
