@@ -2,10 +2,10 @@
 ghost use Rattle.std.specs.Prelude.{◌≡◌};
 ghost use Rattle.report.specs.Lawful.{lawful_address, same, time_of, interval_of, counted, is_active, lawful};
 
-use crate::limits::{ADDRESS_NUMBERS, LAST_TICK, REPORT_NUMBERS};
+use crate::limits::{ADDRESS_KINDS, ADDRESS_NUMBERS, LAST_TICK, PARTIES, REPORT_NUMBERS};
 
 // A kind (1 a leg, 2 a temporary or SRF connection) and a number from 1 to 127.
-#[derive(Clone, Copy, PartialEq, Eq, Debug)]
+#[derive(Clone, Copy, PartialEq, Eq, PartialOrd, Ord, Debug)]
 pub struct Address {
     pub kind: u8,
     pub number: u8,
@@ -44,14 +44,14 @@ impl Address {
     pub fn is_lawful(self) -> bool
         ensures { result ≡ lawful_address self }
     {
-        1 <= self.kind && self.kind <= 2 && 1 <= self.number && self.number <= ADDRESS_NUMBERS
+        (1..=ADDRESS_KINDS).contains(&self.kind) && (1..=ADDRESS_NUMBERS).contains(&self.number)
     }
 
     // Whether both are one address.
     pub fn is(self, other: Address) -> bool
         ensures { result ≡ same self other }
     {
-        self.kind == other.kind && self.number == other.number
+        self == other
     }
 }
 
@@ -95,24 +95,29 @@ impl Standing {
     pub fn is_active(self) -> bool
         ensures { result ≡ is_active self }
     {
-        match self {
-            Standing::Active => true,
-            Standing::Ended | Standing::Released => false,
-        }
+        self == Standing::Active
     }
 }
 
 impl Report {
+    // What stands in a place that no report was written to.
+    pub const BLANK: Report = Report {
+        address: Address { kind: 0, number: 0 },
+        number: 0,
+        party: 0,
+        tick: 0,
+        standing: Standing::Ended,
+        elapsed: Elapsed::Plain(0),
+    };
+
     // Whether the frame's rules admit the report.
     pub fn is_lawful(self) -> bool
         ensures { result ≡ lawful self }
     {
         let time = self.elapsed.time();
         self.address.is_lawful()
-            && 1 <= self.number
-            && self.number <= REPORT_NUMBERS
-            && 1 <= self.party
-            && self.party <= 2
+            && (1..=REPORT_NUMBERS).contains(&self.number)
+            && (1..=PARTIES).contains(&self.party)
             && self.tick <= LAST_TICK
             && self.elapsed.is_counted()
             && time <= self.tick

@@ -5,7 +5,7 @@ use bursts::BurstList;
 use report::Report;
 
 // How far a connection has come; an answered one has the tick of its answer.
-#[derive(Clone, Copy)]
+#[derive(Clone, Copy, PartialEq, Eq, Debug)]
 pub enum Stage {
     Consultation,
     Waiting,
