@@ -1,7 +1,9 @@
 -- Records that hold a book's open accounts, and what a write of one record makes of that. Assumes nothing.
-use Rattle.std.proofs.Common.{◌≡◌, ℕ, zero, suc, ◌+◌, ◌<◌, ◌≤◌, Bool, true, false, cond, not, ◌⊎◌, List, [], ◌∷◌, length, get_or, set, replicate, is_some, Some, None, sym, refl, ap, ◌∙◌, subst, inl, inr, arith}
+use Rattle.std.proofs.Common.{◌≡◌, ℕ, ◌+◌, ◌<◌, Bool, true, false, cond, ◌⊎◌, List, [], ◌∷◌, length, get_or, set, replicate, is_some, Some, None, sym, refl, ap, ◌∙◌, subst, inl, inr, arith}
 use Rattle.std.proofs.lemmas.Bool.Decides.{nat_tests}
-use Rattle.std.proofs.lemmas.Bool.{and_parts, cases_eq, cases_Bool}
+use Rattle.std.proofs.lemmas.Bool.{and_parts, cases_eq, cases_Bool, false≢true, ltb-true, ltb-false}
+use Rattle.std.specs.List.{position_or_len, count_by}
+use Rattle.std.proofs.lemmas.List.Sums.{fails_before_first, passes_at_first, count_by-le-length, sum_by-cons, sum_by-set}
 use Rattle.std.proofs.lemmas.List.{get_or-set_same, get_or-set_other, length-set, get_or-replicate}
 use Rattle.report.specs.declared.report.Address.{Address}
 use Rattle.report.specs.Lawful.{same, lawful_address}
@@ -9,65 +11,30 @@ use Rattle.report.proofs.Addresses.{same_address, same_self, not_same, same_not}
 use Rattle.account.specs.declared.record.AccountRecord.{AccountRecord}
 use Rattle.report.specs.Limits.{open_accounts}
 use Rattle.account.specs.Rule.{Slot, Book, no_accounts, bit_of, many, is_open, written}
-use Rattle.account.specs.Records.{closed_record, no_record, open_record, open_for, is_closed, account_of, place, has}
-use Rattle.account.specs.Follow.{opens, LieIn, Holds}
+use Rattle.account.specs.Records.{closed_record, no_record, open_record, open_for, is_closed, account_of, has}
+use Rattle.account.specs.Follow.{LieIn, Holds}
 use Rattle.account.proofs.Many.{many_change}
 
-pub differ : false ≡ true → ⊥
-differ e = let w : ◌≡◌ {A = ℕ} 0 1 = cc in omega arith
-
 -- whether one of the records passes, record by record
-module _ (p : AccountRecord → Bool) where
-  place_first : (y : AccountRecord) (ys : List AccountRecord) → p y ≡ true → place p (y ∷ ys) ≡ 0
-  place_first y ys is = rw is
+module _ (p : AccountRecord → Bool) (ys : List AccountRecord) where
+  pub has_none : has p ys ≡ false → (i : ℕ) → i < length ys → p (get_or ys i no_record) ≡ false
+  has_none e i lt = let all = ltb-false (position_or_len p ys) (length ys) e in fails_before_first p ys i no_record (omega arith)
 
-  place_later : (y : AccountRecord) (ys : List AccountRecord) → p y ≡ false → place p (y ∷ ys) ≡ suc (place p ys)
-  place_later y ys is = rw is
-
-  pub has_none : (ys : List AccountRecord) → has p ys ≡ false → (i : ℕ) → i < length ys → p (get_or ys i no_record) ≡ false
-  has_none [] e i lt = absurd (omega arith)
-  has_none (y ∷ ys) e i lt = elim (cases_Bool (p y)) [
-    | inl is ↦ let at = place_first y ys is in let z : ⊥ = grind (arith, nat_tests) in absurd z
-    | inr isnt ↦ let at = place_later y ys isnt in later i lt isnt (has_none ys (grind (arith, nat_tests)))
-  ]
-    where
-      later : (i : ℕ) → i < length (y ∷ ys) → p y ≡ false → ((k : ℕ) → k < length ys → p (get_or ys k no_record) ≡ false) → p (get_or (y ∷ ys) i no_record) ≡ false
-      later zero lt isnt none = isnt
-      later (suc i) lt isnt none = none i (omega arith)
-
-  pub has_at : (ys : List AccountRecord) → has p ys ≡ true → p (get_or ys (place p ys) no_record) ≡ true
-  has_at [] e = absurd (differ e)
-  has_at (y ∷ ys) e = elim (cases_Bool (p y)) [
-    | inl is ↦ ap (λ n. p (get_or (y ∷ ys) n no_record)) (place_first y ys is) ∙ is
-    | inr isnt ↦ let at = place_later y ys isnt in ap (λ n. p (get_or (y ∷ ys) n no_record)) at ∙ has_at ys (grind (arith, nat_tests))
-  ]
+  pub has_at : has p ys ≡ true → p (get_or ys (position_or_len p ys) no_record) ≡ true
+  has_at e = passes_at_first p ys no_record (ltb-true (position_or_len p ys) (length ys) e)
 
 -- records that are all open, and records of which one is closed
-pub opens_most : (ys : List AccountRecord) → opens ys ≤ length ys
-opens_most [] = omega arith
-opens_most (y ∷ ys) = let ih = opens_most ys in elim (cases_Bool (open_record y)) [ inl e ↦ let b = ap bit_of e in omega arith | inr e ↦ let b = ap bit_of e in omega arith ]
-
-pub opens_full : (ys : List AccountRecord) → has is_closed ys ≡ false → opens ys ≡ length ys
+pub opens_full : (ys : List AccountRecord) → has is_closed ys ≡ false → count_by open_record ys ≡ length ys
 opens_full [] e = refl
-opens_full (y ∷ ys) e =
-    elim (cases_Bool (open_record y)) [
-      | inl is ↦ let at = place_later is_closed y ys (ap not is) in let ih = opens_full ys (grind (arith, nat_tests)) in let b = ap bit_of is in omega arith
-      | inr isnt ↦ let at = place_first is_closed y ys (ap not isnt) in let z : ⊥ = grind (arith, nat_tests) in absurd z
-    ]
+opens_full (y ∷ ys) e = let ih = opens_full ys in grind (arith, nat_tests, sum_by-cons (λ x. cond (open_record x) 1 0) y ys)
 
-pub opens_less : (ys : List AccountRecord) → has is_closed ys ≡ true → opens ys < length ys
-opens_less [] e = absurd (differ e)
-opens_less (y ∷ ys) e =
-    elim (cases_Bool (open_record y)) [
-      | inl is ↦ let at = place_later is_closed y ys (ap not is) in let ih = opens_less ys (grind (arith, nat_tests)) in let b = ap bit_of is in omega arith
-      | inr isnt ↦ let m = opens_most ys in let b = ap bit_of isnt in omega arith
-    ]
+pub opens_less : (ys : List AccountRecord) → has is_closed ys ≡ true → count_by open_record ys < length ys
+opens_less [] e = absurd (false≢true e)
+opens_less (y ∷ ys) e = let ih = opens_less ys in let m = count_by-le-length open_record ys in grind (arith, nat_tests, sum_by-cons (λ x. cond (open_record x) 1 0) y ys)
 
--- a write of one record
-pub opens_set : (ys : List AccountRecord) (n : ℕ) (y : AccountRecord) → n < length ys → opens (set ys n y) + bit_of (open_record (get_or ys n no_record)) ≡ opens ys + bit_of (open_record y)
-opens_set [] n y lt = absurd (omega arith)
-opens_set (x ∷ ys) zero y lt = omega arith
-opens_set (x ∷ ys) (suc n) y lt = let ih = opens_set ys n y (omega arith) in omega arith
+bit_is : (v : Bool) → bit_of v ≡ cond v 1 0
+bit_is true = refl
+bit_is false = refl
 
 -- One record is written, and with it the accounts of one address: only this record could be open for the address, it is open for no other, and what
 -- is written into it is the address's open account, or closed where there is none.
@@ -160,14 +127,14 @@ module _ (ys : List AccountRecord) (b : Book) (a : Address) (n : ℕ) (y : Accou
       some_if true = refl
       some_if false = refl
 
-  new_count : many (is_open (written b a s)) ≡ opens (set ys n y)
+  new_count : many (is_open (written b a s)) ≡ count_by open_record (set ys n y)
   new_count =
       let change = many_change (is_open b) (is_open (written b a s)) a ok (λ x ne. sym (ap (λ (z : Slot). is_some z.open_at) (elsewhere x ne))) in
-      let before = ap bit_of was in
-      let after = ap bit_of open_as in
-      let w = opens_set ys n y lt in
+      let before = ap bit_of was ∙ bit_is (open_record (get_or ys n no_record)) in
+      let after = ap bit_of open_as ∙ bit_is (open_record y) in
+      let w = sum_by-set (λ x. cond (open_record x) 1 0) ys n y no_record lt in
       let c = old.count in
-      joined (many (is_open b)) (many (is_open (written b a s))) (opens ys) (opens (set ys n y)) (bit_of (is_open b a)) (bit_of (is_open (written b a s) a)) (bit_of (open_record (get_or ys n no_record))) (bit_of (open_record y)) change before after w c
+      joined (many (is_open b)) (many (is_open (written b a s))) (count_by open_record ys) (count_by open_record (set ys n y)) (bit_of (is_open b a)) (bit_of (is_open (written b a s) a)) (cond (open_record (get_or ys n no_record)) 1 0) (cond (open_record y) 1 0) change before after w c
     where
       joined : (m m' o o' p q p' q' : ℕ) → m + q ≡ m' + p → p ≡ p' → q ≡ q' → o' + p' ≡ o + q' → m ≡ o → m' ≡ o'
       joined m m' o o' p q p' q' c1 c2 c3 c4 c5 = omega arith
@@ -188,8 +155,8 @@ pub holds_none : Holds (replicate open_accounts closed_record) no_accounts
 holds_none = record {
   enough = omega arith;
   lie = record {
-    apart = λ i j a li lj hi hj. absurd (differ (sym (all_closed i a li) ∙ hi));
-    there = λ i a li h. absurd (differ (sym (all_closed i a li) ∙ h));
+    apart = λ i j a li lj hi hj. absurd (false≢true (sym (all_closed i a li) ∙ hi));
+    there = λ i a li h. absurd (false≢true (sym (all_closed i a li) ∙ h));
     nowhere = λ a h. refl;
     count = refl;
   };

@@ -1,7 +1,9 @@
 -- A report that is read at records is read by the account rule. Assumes nothing.
-use Rattle.std.proofs.Common.{◌≡◌, ℕ, zero, suc, ◌+◌, ◌<◌, ◌≤◌, Bool, true, false, cond, not, eqb, leb, List, [], ◌∷◌, length, get_or, take, set, is_some, Some, None, Ok, Err, Option, Result, sym, refl, ap, ◌∙◌, subst, inl, inr, arith, length-take}
-use Rattle.std.proofs.lemmas.Bool.{and_parts, and_from, and_left, cases_Bool, cond-true, cond-false, ltb-true, lt-leb, le-leb}
+use Rattle.std.proofs.Common.{◌≡◌, ℕ, ◌+◌, ◌<◌, ◌≤◌, Bool, true, false, cond, not, eqb, leb, List, ◌∷◌, length, get_or, set, is_some, Some, None, Ok, Err, Option, Result, sym, refl, ap, ◌∙◌, subst, inl, inr, arith, length-take}
+use Rattle.std.proofs.lemmas.Bool.{and_parts, and_from, and_left, cases_Bool, cond-true, cond-false, ltb-true, lt-leb, le-leb, not-true, false≢true}
 use Rattle.std.proofs.lemmas.List.{length-set}
+use Rattle.std.proofs.Math.Seq.{take-set-lt}
+use Rattle.std.specs.List.{position_or_len, count_by}
 use Rattle.report.specs.declared.report.Address.{Address}
 use Rattle.report.specs.declared.report.Report.{Report}
 use Rattle.report.specs.declared.refusal.Refusal.{Refusal}
@@ -14,9 +16,9 @@ use Rattle.account.specs.declared.record.Status.{Status}
 use Rattle.account.specs.declared.record.Status.TheVariants.{Open, Closed, Repeat}
 use Rattle.account.specs.declared.record.Reading.{Reading}
 use Rattle.account.specs.Rule.{Account, opened, read, numbered, Slot, Book, many, is_open, written, settled, going_on, opening, by_open}
-use Rattle.account.specs.Records.{closed_record, no_record, open_record, open_for, is_closed, account_of, counting, place, has, place_for, Said, status_of, said_of_left, said_of_open, said_of_first, if_free, said_in, said, says, kept, Answers, Leaves}
-use Rattle.account.specs.Follow.{opens, LieIn, Holds, newest, status_at, Follows}
-use Rattle.account.proofs.Holding.{differ, has_none, has_at, opens_full, opens_less, lie_in_after}
+use Rattle.account.specs.Records.{closed_record, no_record, open_record, open_for, is_closed, account_of, counting, has, place_for, Said, status_of, said_of_left, said_of_open, said_of_first, if_free, said_in, said, says, kept, Answers, Leaves}
+use Rattle.account.specs.Follow.{LieIn, Holds, newest, status_at, Follows}
+use Rattle.account.proofs.Holding.{has_none, has_at, opens_full, opens_less, lie_in_after}
 
 -- the book after what is said of a report
 abbrev after : Status → Book → Address → Account → Book
@@ -99,15 +101,15 @@ record Spot (ys : List AccountRecord) (b : Book) (a : Address) (n : ℕ) : Type 
   was : is_open b a ≡ open_record (get_or ys n no_record)
 
 module _ (ys : List AccountRecord) (b : Book) (a : Address) (old : LieIn ys b) where
-  found : has (open_for a) ys ≡ true → (b a).open_at ≡ Some (account_of (get_or ys (place (open_for a) ys) no_record))
-  found e = old.there (place (open_for a) ys) a (ltb-true (place (open_for a) ys) (length ys) e) (has_at (open_for a) ys e)
+  found : has (open_for a) ys ≡ true → (b a).open_at ≡ Some (account_of (get_or ys (position_or_len (open_for a) ys) no_record))
+  found e = old.there (position_or_len (open_for a) ys) a (ltb-true (position_or_len (open_for a) ys) (length ys) e) (has_at (open_for a) ys e)
 
   none_found : has (open_for a) ys ≡ false → (b a).open_at ≡ None
   none_found e = old.nowhere a (has_none (open_for a) ys e)
 
-  spot_open : has (open_for a) ys ≡ true → Spot ys b a (place (open_for a) ys)
+  spot_open : has (open_for a) ys ≡ true → Spot ys b a (position_or_len (open_for a) ys)
   spot_open e =
-      let n : ℕ = place (open_for a) ys in
+      let n : ℕ = position_or_len (open_for a) ys in
       let lt = ltb-true n (length ys) e in
       let is = has_at (open_for a) ys e in
       let parts = and_parts (open_record (get_or ys n no_record)) (same (get_or ys n no_record).address a) is in
@@ -121,20 +123,16 @@ module _ (ys : List AccountRecord) (b : Book) (a : Address) (old : LieIn ys b) w
         was = ap is_some (found e) ∙ sym parts.0;
       }
 
-  spot_closed : has (open_for a) ys ≡ false → has is_closed ys ≡ true → Spot ys b a (place is_closed ys)
+  spot_closed : has (open_for a) ys ≡ false → has is_closed ys ≡ true → Spot ys b a (position_or_len is_closed ys)
   spot_closed e f =
-      let n : ℕ = place is_closed ys in
-      let closed : open_record (get_or ys n no_record) ≡ false = not_true (open_record (get_or ys n no_record)) (has_at is_closed ys f) in
+      let n : ℕ = position_or_len is_closed ys in
+      let closed : open_record (get_or ys n no_record) ≡ false = not-true (open_record (get_or ys n no_record)) (has_at is_closed ys f) in
       record {
         inside = ltb-true n (length ys) f;
-        only = λ j lj h. absurd (differ (sym (has_none (open_for a) ys e j lj) ∙ h));
+        only = λ j lj h. absurd (false≢true (sym (has_none (open_for a) ys e j lj) ∙ h));
         no_other = λ x ne. and_left (open_record (get_or ys n no_record)) (same (get_or ys n no_record).address x) closed;
         was = ap is_some (none_found e) ∙ sym closed;
       }
-    where
-      not_true : (v : Bool) → not v ≡ true → v ≡ false
-      not_true true h = absurd (differ h)
-      not_true false h = refl
 
 err_not_ok : {e : Refusal} {s : Said} → Err e ≡ Ok s → ⊥
 err_not_ok h = let w : ◌≡◌ {A = ℕ} 0 1 = cc in omega arith
@@ -148,8 +146,8 @@ said_free false (Ok x) s e = absurd (err_not_ok e)
 module _ (ys : List AccountRecord) (b : Book) (r : Report) (old : LieIn ys b) (all : length ys ≡ open_accounts) where
   full : leb open_accounts (many (is_open b)) ≡ not (has is_closed ys)
   full = elim (cases_Bool (has is_closed ys)) [
-    | inl free ↦ lt-leb open_accounts (many (is_open b)) (fewer (many (is_open b)) (opens ys) (length ys) open_accounts old.count (opens_less ys free) all) ∙ sym (ap not free)
-    | inr none ↦ le-leb open_accounts (many (is_open b)) (as_many (many (is_open b)) (opens ys) (length ys) open_accounts old.count (opens_full ys none) all) ∙ sym (ap not none)
+    | inl free ↦ lt-leb open_accounts (many (is_open b)) (fewer (many (is_open b)) (count_by open_record ys) (length ys) open_accounts old.count (opens_less ys free) all) ∙ sym (ap not free)
+    | inr none ↦ le-leb open_accounts (many (is_open b)) (as_many (many (is_open b)) (count_by open_record ys) (length ys) open_accounts old.count (opens_full ys none) all) ∙ sym (ap not none)
   ]
     where
       fewer : (m o l n : ℕ) → m ≡ o → o < l → l ≡ n → m < n
@@ -161,13 +159,13 @@ module _ (ys : List AccountRecord) (b : Book) (r : Report) (old : LieIn ys b) (a
   -- what the rule makes of a report is what is said of it at the records
   rule_is : by_open b r (b r.address).open_at ≡ onto b r.address (said_in ys r)
   rule_is = elim (cases_Bool (has (open_for r.address) ys)) [
-    | inl e ↦ ap (by_open b r) (found ys b r.address old e) ∙ (open_is b r (account_of (get_or ys (place (open_for r.address) ys) no_record)) ∙ ap (onto b r.address) (sym (cond-true (has (open_for r.address) ys) _ _ e)))
+    | inl e ↦ ap (by_open b r) (found ys b r.address old e) ∙ (open_is b r (account_of (get_or ys (position_or_len (open_for r.address) ys) no_record)) ∙ ap (onto b r.address) (sym (cond-true (has (open_for r.address) ys) _ _ e)))
     | inr e ↦ ap (by_open b r) (none_found ys b r.address old e) ∙ (first_is b r (has is_closed ys) full ∙ ap (onto b r.address) (sym (cond-false (has (open_for r.address) ys) _ _ e)))
   ]
 
   right_in : RightSaid b r (said_in ys r)
   right_in = elim (cases_Bool (has (open_for r.address) ys)) [
-    | inl e ↦ subst (RightSaid b r) (sym (cond-true (has (open_for r.address) ys) _ _ e)) (right_open b r (account_of (get_or ys (place (open_for r.address) ys) no_record)) (found ys b r.address old e))
+    | inl e ↦ subst (RightSaid b r) (sym (cond-true (has (open_for r.address) ys) _ _ e)) (right_open b r (account_of (get_or ys (position_or_len (open_for r.address) ys) no_record)) (found ys b r.address old e))
     | inr e ↦ subst (RightSaid b r) (sym (cond-false (has (open_for r.address) ys) _ _ e)) (right_first b r (has is_closed ys) (none_found ys b r.address old e))
   ]
 
@@ -177,13 +175,6 @@ module _ (ys : List AccountRecord) (b : Book) (r : Report) (old : LieIn ys b) (a
     | inr e ↦ subst (Spot ys b r.address) (sym (cond-false (has (open_for r.address) ys) _ _ e)) (spot_closed ys b r.address old e (said_free (has is_closed ys) (said_of_first r) s (sym (cond-false (has (open_for r.address) ys) _ _ e) ∙ h)))
   ]
 
--- a write among the first m is a write to the first m
-take_set_in : (m : ℕ) (xs : List AccountRecord) (n : ℕ) (y : AccountRecord) → take m (set xs n y) ≡ set (take m xs) n y
-take_set_in zero xs n y = refl
-take_set_in (suc m) [] n y = refl
-take_set_in (suc m) (x ∷ xs) zero y = refl
-take_set_in (suc m) (x ∷ xs) (suc n) y = ap (λ l. x ∷ l) (take_set_in m xs n y)
-
 module _ (xs new : List AccountRecord) (b : Book) (r : Report) (ok : lawful r ≡ true) (old : Holds xs b) where
   counted : length (counting xs) ≡ open_accounts
   counted = let e = old.enough in omega (arith, length-take open_accounts xs)
@@ -191,10 +182,11 @@ module _ (xs new : List AccountRecord) (b : Book) (r : Report) (ok : lawful r �
   holds_set : (y : AccountRecord) (s : Slot) (said-there : Said) → said_in (counting xs) r ≡ Ok said-there → open_for r.address y ≡ open_record y → s.open_at ≡ cond (open_record y) (Some (account_of y)) None → new ≡ set xs (place_for r (counting xs)) y → Holds new (written b r.address s)
   holds_set y s x h mine shown is =
       let spot = spot_for (counting xs) b r old.lie counted x h in
+      let short : place_for r (counting xs) < open_accounts = let n = spot.inside in omega (arith, counted) in
       let lie = lie_in_after (counting xs) b r.address (place_for r (counting xs)) y s spot.inside spot.only spot.no_other mine shown spot.was (lawful_there r ok) old.lie in
       record {
         enough = let e = old.enough in let l = ap length is ∙ length-set xs (place_for r (counting xs)) y in omega arith;
-        lie = subst (λ zs. LieIn zs (written b r.address s)) (sym (ap counting is ∙ take_set_in open_accounts xs (place_for r (counting xs)) y)) lie;
+        lie = subst (λ zs. LieIn zs (written b r.address s)) (sym (ap counting is ∙ take-set-lt open_accounts xs (place_for r (counting xs)) y short)) lie;
       }
 
   holds_after : (x : Reading) (st : Status) → said_in (counting xs) r ≡ Ok (says x) → x.account.address ≡ r.address → open_record x.account ≡ true → new ≡ kept st xs (place_for r (counting xs)) x.account → Holds new (after st b r.address (account_of x.account))

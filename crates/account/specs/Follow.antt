@@ -1,5 +1,6 @@
 -- The records and the account rule: what the records hold of a book of accounts, and that a report is read as the rule has it. Assumes nothing.
-use Rattle.std.specs.Prelude.{◌≡◌, ℕ, ◌+◌, ◌<◌, ◌≤◌, true, false, cond, List, [], ◌∷◌, length, take, Some, None, Ok, Err, Option, Result, ◌==◌, slice_index_or}
+use Rattle.std.specs.Prelude.{◌≡◌, ℕ, ◌<◌, ◌≤◌, true, false, cond, List, [], ◌∷◌, length, take, Some, None, Ok, Err, Option, Result, ◌==◌, slice_index_or}
+use Rattle.std.specs.List.{count_by}
 use Rattle.report.specs.declared.report.Address.{Address}
 use Rattle.report.specs.declared.report.Report.{Report}
 use Rattle.report.specs.declared.refusal.Refusal.{Refusal}
@@ -9,15 +10,10 @@ use Rattle.account.specs.declared.record.Status.{Status}
 use Rattle.account.specs.declared.record.Status.TheVariants.{Repeat}
 use Rattle.account.specs.declared.record.Reading.{Reading}
 use Rattle.account.specs.declared.record.Stop.{Stop}
-use Rattle.account.specs.Rule.{Account, Slot, Book, bit_of, many, is_open, read_one, read_list, accounts_at}
+use Rattle.account.specs.Rule.{Account, Slot, Book, many, is_open, read_one, read_list, accounts_at}
 use Rattle.report.specs.declared.report.Standing.TheVariants.{Active}
 use Rattle.report.specs.declared.report.Elapsed.TheVariants.{Plain}
 use Rattle.account.specs.Records.{no_record, open_record, open_for, account_of, counting, status_of, said, Answers, Leaves}
-
--- how many of the records are open
-abbrev pub opens : List AccountRecord → ℕ
-opens [] = 0
-opens (x ∷ xs) = bit_of (open_record x) + opens xs
 
 -- The open accounts of a book lie in the records, each in one.
 pub record LieIn (ys : List AccountRecord) (b : Book) : Type 0 where
@@ -28,7 +24,7 @@ pub record LieIn (ys : List AccountRecord) (b : Book) : Type 0 where
   -- where no record is open for an address, no account is
   pub nowhere : (a : Address) → ((i : ℕ) → i < length ys → open_for a (slice_index_or ys i no_record) ≡ false) → (b a).open_at ≡ None
   -- as many accounts are open as records
-  pub count : many (is_open b) ≡ opens ys
+  pub count : many (is_open b) ≡ count_by open_record ys
 
 -- the records of a host hold a book: there are enough of them, and its open accounts lie in those that count
 pub record Holds (xs : List AccountRecord) (b : Book) : Type 0 where

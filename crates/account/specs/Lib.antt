@@ -1,4 +1,5 @@
 pub mod Rule
 pub mod Records
+pub mod Open
 pub mod Follow
 pub mod Laws

@@ -1,5 +1,6 @@
 -- Accounts in records of the host's: what every record means, and what reading a report does to them. Assumes nothing.
-use Rattle.std.specs.Prelude.{◌≡◌, ℕ, suc, ◌+◌, ◌<◌, Bool, true, false, cond, not, ◌&&◌, List, [], ◌∷◌, length, take, replicate, Some, None, Ok, Err, Option, Result, ◌==◌, nat_lt, slice_index, slice_index_or, slice_set}
+use Rattle.std.specs.Prelude.{◌≡◌, ℕ, ◌+◌, ◌<◌, Bool, true, cond, not, ◌&&◌, List, [], ◌∷◌, length, take, replicate, Some, None, Ok, Err, Option, Result, ◌==◌, nat_lt, slice_index, slice_index_or, slice_set}
+use Rattle.std.specs.List.{position_or_len}
 use Rattle.report.specs.declared.report.Address.{Address}
 use Rattle.report.specs.declared.report.Report.{Report}
 use Rattle.report.specs.declared.refusal.Refusal.{Refusal}
@@ -10,8 +11,6 @@ use Rattle.account.specs.declared.record.AccountRecord.{AccountRecord}
 use Rattle.account.specs.declared.record.Status.{Status}
 use Rattle.account.specs.declared.record.Status.TheVariants.{Open, Closed, Repeat}
 use Rattle.account.specs.declared.record.Reading.{Reading}
-use Rattle.account.specs.declared.reading.Sought.{Sought}
-use Rattle.account.specs.declared.reading.Sought.TheVariants.{OpenFor, Closed as SoughtClosed}
 use Rattle.account.specs.Rule.{Account, opened, read, numbered}
 
 -- the record that closing an account leaves
@@ -41,16 +40,6 @@ open_for a x = open_record x && same x.address a
 -- the record is free for an account
 abbrev pub is_closed : AccountRecord → Bool
 is_closed x = not (open_record x)
-
--- what is looked for among records
-abbrev pub passes : Sought → AccountRecord → Bool
-passes (OpenFor a) x = open_for a x
-passes SoughtClosed x = is_closed x
-
--- the place of the first record that passes, or the number of records
-abbrev pub place : (AccountRecord → Bool) → List AccountRecord → ℕ
-place p [] = 0
-place p (x ∷ xs) = cond (p x) 0 (suc (place p xs))
 
 -- so many records count as the most accounts that can be open; those further on are left alone
 abbrev pub counting : List AccountRecord → List AccountRecord
@@ -85,15 +74,15 @@ if_free free (Ok x) = cond free (Ok x) (Err AccountsFull)
 
 -- whether one of the records passes
 abbrev pub has : (AccountRecord → Bool) → List AccountRecord → Bool
-has p xs = nat_lt (place p xs) (length xs)
+has p xs = nat_lt (position_or_len p xs) (length xs)
 
 -- the place of the record for a report: of its open account, else the first closed one
 abbrev pub place_for : Report → List AccountRecord → ℕ
-place_for r xs = cond (has (open_for r.address) xs) (place (open_for r.address) xs) (place is_closed xs)
+place_for r xs = cond (has (open_for r.address) xs) (position_or_len (open_for r.address) xs) (position_or_len is_closed xs)
 
 -- of a report within the frame's rules, at the records that count
 abbrev pub said_in : List AccountRecord → Report → Result Said Refusal
-said_in xs r = cond (has (open_for r.address) xs) (said_of_open (account_of (slice_index_or xs (place (open_for r.address) xs) no_record)) r) (if_free (has is_closed xs) (said_of_first r))
+said_in xs r = cond (has (open_for r.address) xs) (said_of_open (account_of (slice_index_or xs (position_or_len (open_for r.address) xs) no_record)) r) (if_free (has is_closed xs) (said_of_first r))
 
 -- of any report, at handed records
 abbrev pub said : List AccountRecord → Report → Result Said Refusal
@@ -119,17 +108,7 @@ abbrev pub Leaves : List AccountRecord → Report → Result Reading Refusal →
 Leaves old r (Ok x) new = new ≡ kept x.status old (place_for r (counting old)) x.account
 Leaves old r (Err e) new = new ≡ old
 
--- A step of the rule on one account, done to a record: the account that the rule leaves, open at the same address, or none.
-abbrev pub Moves : AccountRecord → Option Account → Option AccountRecord → Type 0
-Moves x o None = o ≡ None
-Moves x o (Some y) = (o ≡ Some (account_of y)) × (open_record y ≡ true) × (y.address ≡ x.address)
-
 -- an answer with the place of its record, which is one of the records
 abbrev pub Finds : List AccountRecord → Report → Result (ℕ × Reading) Refusal → Type 0
 Finds xs r (Ok x) = Answers (said xs r) r (Ok x.1) × (x.0 ≡ place_for r (counting xs)) × (x.0 < length xs)
 Finds xs r (Err e) = Answers (said xs r) r (Err e)
-
--- the first record that is the open account of an address, with its place, or none
-abbrev pub OpenAt : List AccountRecord → Address → Option (ℕ × AccountRecord) → Type 0
-OpenAt xs a None = has (open_for a) xs ≡ false
-OpenAt xs a (Some x) = (has (open_for a) xs ≡ true) × (x.0 ≡ place (open_for a) xs) × (x.1 ≡ slice_index_or xs x.0 no_record) × (open_record x.1 ≡ true) × (x.1.address ≡ a)

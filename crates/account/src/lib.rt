@@ -1,6 +1,7 @@
 // Accounts of connections, read from their reports.
 #![tactic(auto)]
 
+mod open_account;
 pub mod reading;
 pub mod record;
 

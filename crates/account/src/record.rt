@@ -7,8 +7,9 @@ use report::limits::{OPEN_ACCOUNTS, TARIFFS};
 use report::{Address, Refusal};
 
 // An account in a record of the host's. It is open while its tariff, the current one, is a tariff;
-// every other record is closed, whatever else it holds. The ticks of tariff 1 come first.
-#[derive(Clone, Copy)]
+// every other record is closed, whatever else it holds. So each value of a record that a host lends
+// means something, and no invariant is asked of it. The ticks of tariff 1 come first.
+#[derive(Clone, Copy, PartialEq, Eq, Debug)]
 pub struct AccountRecord {
     pub address: Address,
     pub last: u16,
@@ -26,14 +27,14 @@ pub enum Status {
 }
 
 // A report that was read, and its account after it.
-#[derive(Clone, Copy)]
+#[derive(Clone, Copy, PartialEq, Eq, Debug)]
 pub struct Reading {
     pub status: Status,
     pub account: AccountRecord,
 }
 
 // The first report of some that was refused, by its index.
-#[derive(Clone, Copy)]
+#[derive(Clone, Copy, PartialEq, Eq, Debug)]
 pub struct Stop {
     pub index: usize,
     pub refusal: Refusal,
@@ -56,7 +57,7 @@ impl AccountRecord {
     pub fn is_open(&self) -> bool
         ensures { result ≡ open_record self.now }
     {
-        1 <= self.tariff && self.tariff as usize <= TARIFFS
+        (1..=TARIFFS).contains(&usize::from(self.tariff))
     }
 }
 
