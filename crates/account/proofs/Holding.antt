@@ -52,7 +52,7 @@ module _ (ys : List AccountRecord) (b : Book) (a : Address) (n : ℕ) (y : Accou
   off_n i ne = get_or-set_other ys n i y no_record ne
 
   inside : (i : ℕ) → i < length (set ys n y) → i < length ys
-  inside i h = subst (λ m. i < m) (length-set ys n y) h
+  inside i h = rw length-set at h
 
   here : written b a s a ≡ s
   here = rw same_self
@@ -68,10 +68,10 @@ module _ (ys : List AccountRecord) (b : Book) (a : Address) (n : ℕ) (y : Accou
       sym (same_address y.address x p.1) ∙ same_address y.address a q.1
 
   is_n : (i : ℕ) → i < length ys → open_for a (get_or (set ys n y) i no_record) ≡ true → i ≡ n
-  is_n i lti e = elim (cases_eq i n) [ inl is ↦ is | inr ne ↦ only i lti (sym (ap (open_for a) (off_n i ne)) ∙ e) ]
+  is_n i lti e = elim (cases_eq i n) [ inl is ↦ is | inr ne ↦ only i lti (rw (off_n i ne) at e) ]
 
   not_n : (x : Address) (i : ℕ) → (x ≡ a → ⊥) → open_for x (get_or (set ys n y) i no_record) ≡ true → i ≡ n → ⊥
-  not_n x i ne e is = ne (written_for x (sym (ap (open_for x) (ap (λ k. get_or (set ys n y) k no_record) is ∙ at_n)) ∙ e))
+  not_n x i ne e is = ne (written_for x (rw (is, at_n) at e))
 
   cases_address : (x : Address) → (x ≡ a) ⊎ (x ≡ a → ⊥)
   cases_address x = elim (cases_Bool (same x a)) [ inl t ↦ inl (same_address x a t) | inr f ↦ inr (same_not x a f) ]
@@ -80,52 +80,42 @@ module _ (ys : List AccountRecord) (b : Book) (a : Address) (n : ℕ) (y : Accou
   new_apart i j x li lj ei ej =
       elim (cases_address x) [
         | inl is ↦
-            let fi = subst (λ z. open_for z (get_or (set ys n y) i no_record) ≡ true) is ei in
-            let fj = subst (λ z. open_for z (get_or (set ys n y) j no_record) ≡ true) is ej in
-            is_n i li fi ∙ sym (is_n j lj fj)
+            is_n i li (rw is at ei) ∙ sym (is_n j lj (rw is at ej))
         | inr ne ↦
             old.apart i j x li lj
-            (sym (ap (open_for x) (off_n i (not_n x i ne ei))) ∙ ei)
-            (sym (ap (open_for x) (off_n j (not_n x j ne ej))) ∙ ej)
+            (rw (off_n i (not_n x i ne ei)) at ei)
+            (rw (off_n j (not_n x j ne ej)) at ej)
       ]
 
   mine_open : (i : ℕ) → i ≡ n → open_for a (get_or (set ys n y) i no_record) ≡ true → open_record y ≡ true
-  mine_open i is e = sym mine ∙ (sym (ap (open_for a) (ap (λ k. get_or (set ys n y) k no_record) is ∙ at_n)) ∙ e)
+  mine_open i is e = sym mine ∙ (rw (is, at_n) at e)
 
   new_there : (i : ℕ) (x : Address) → i < length ys → open_for x (get_or (set ys n y) i no_record) ≡ true → (written b a s x).open_at ≡ Some (account_of (get_or (set ys n y) i no_record))
   new_there i x li e =
       elim (cases_address x) [
         | inl is ↦
-            let f = subst (λ z. open_for z (get_or (set ys n y) i no_record) ≡ true) is e in
+            let f = rw is at e in
             let at = is_n i li f in
-            let o = mine_open i at f in
-            ap (λ z. (written b a s z).open_at) is ∙ (ap (λ (z : Slot). z.open_at) here ∙ (shown ∙ (ap (λ z. cond z (Some (account_of y)) None) o ∙ sym (ap (λ z. Some (account_of z)) (ap (λ k. get_or (set ys n y) k no_record) at ∙ at_n)))))
+            rw (is, here, shown, mine_open i at f, at, at_n)
         | inr ne ↦
             let off = off_n i (not_n x i ne e) in
-            ap (λ (z : Slot). z.open_at) (elsewhere x ne) ∙ (old.there i x li (sym (ap (open_for x) off) ∙ e) ∙ sym (ap (λ z. Some (account_of z)) off))
+            rw (elsewhere x ne, off) (old.there i x li (rw off at e))
       ]
 
   closed_there : open_for a y ≡ false → s.open_at ≡ None
-  closed_there e = shown ∙ ap (λ z. cond z (Some (account_of y)) None) (sym mine ∙ e)
+  closed_there e = rw (shown, sym mine ∙ e)
 
   new_nowhere : (x : Address) → ((i : ℕ) → i < length ys → open_for x (get_or (set ys n y) i no_record) ≡ false) → (written b a s x).open_at ≡ None
   new_nowhere x h =
       elim (cases_address x) [
         | inl is ↦
-            ap (λ z. (written b a s z).open_at) is ∙ (ap (λ (z : Slot). z.open_at) here ∙ closed_there (sym (ap (open_for a) at_n) ∙ subst (λ z. open_for z (get_or (set ys n y) n no_record) ≡ false) is (h n lt)))
+            rw (is, here) (closed_there (rw (is, at_n) at (h n lt)))
         | inr ne ↦
-            ap (λ (z : Slot). z.open_at) (elsewhere x ne) ∙ old.nowhere x (λ i li. elim (cases_eq i n) [
-              | inl at ↦ ap (λ k. open_for x (get_or ys k no_record)) at ∙ no_other x ne
-              | inr off ↦ sym (ap (open_for x) (off_n i off)) ∙ h i li
-            ])
+            rw (elsewhere x ne) (old.nowhere x (λ i li. elim (cases_eq i n) [ inl at ↦ rw at (no_other x ne) | inr off ↦ rw (off_n i off) at (h i li) ]))
       ]
 
   open_as : is_open (written b a s) a ≡ open_record y
-  open_as = ap (λ (z : Slot). is_some z.open_at) here ∙ (ap is_some shown ∙ some_if (open_record y))
-    where
-      some_if : (v : Bool) → is_some (cond v (Some (account_of y)) None) ≡ v
-      some_if true = refl
-      some_if false = refl
+  open_as = elim (cases_Bool (open_record y)) [ inl e ↦ rw (here, shown, e) | inr e ↦ rw (here, shown, e) ]
 
   new_count : many (is_open (written b a s)) ≡ count_by open_record (set ys n y)
   new_count =

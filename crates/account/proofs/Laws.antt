@@ -1,13 +1,11 @@
 -- The laws of the account rule. Assumes nothing.
-use Rattle.std.proofs.Common.{◌≡◌, ℕ, ◌+◌, ◌<◌, ◌≤◌, Bool, true, false, cond, eqb, ltb, leb, ◌⊎◌, List, ◌∷◌, is_some, Some, None, Ok, Err, Option, Result, sym, refl, ap, ◌∙◌, subst, inl, inr, arith}
-use Rattle.std.proofs.lemmas.Bool.Decides.{nat_tests}
-use Rattle.std.proofs.lemmas.Bool.{cases_Bool, cond-true, eq-eqb, leb-true}
+use Rattle.std.proofs.Common.{◌≡◌, ℕ, ◌+◌, ◌<◌, ◌≤◌, Bool, true, false, cond, eqb, ltb, leb, ◌⊎◌, List, ◌∷◌, is_some, Some, None, Ok, Option, Result, sym, refl, ap, ◌∙◌, subst, inl, inr, arith}
+use Rattle.std.proofs.lemmas.Bool.{cases_Bool, cond_both, cond-true, eq-eqb, eqb-true, leb-true, leb-false}
 use Rattle.report.specs.declared.report.Address.{Address}
 use Rattle.report.specs.declared.report.Elapsed.{Elapsed}
 use Rattle.report.specs.declared.report.Elapsed.TheVariants.{Plain, Switched}
 use Rattle.report.specs.declared.report.Report.{Report}
 use Rattle.report.specs.declared.refusal.Refusal.{Refusal}
-use Rattle.report.specs.declared.refusal.Refusal.TheVariants.{OutOfRange, AccountRule, AccountsFull}
 use Rattle.report.specs.Lawful.{same, lawful, lawful_address, is_active}
 use Rattle.report.specs.Limits.{open_accounts, tariffs}
 use Rattle.report.proofs.Addresses.{same_address, same_self, not_same, lawful_there}
@@ -17,14 +15,8 @@ use Rattle.account.specs.Laws.{NoFewer, AccountLaws}
 use Rattle.account.proofs.Many.{many_change}
 use Rattle.account.proofs.Holding.{holds_none}
 
-ok_not_err : {e : Refusal} {b : Book} → Err e ≡ Ok b → ⊥
-ok_not_err h = let w : ◌≡◌ {A = ℕ} 0 1 = cc in omega arith
-
 same_book : {b c : Book} → ◌≡◌ {A = Result Book Refusal} (Ok b) (Ok c) → b ≡ c
 same_book h = cc
-
-less_than : (m n : ℕ) → leb n m ≡ false → m < n
-less_than m n e = grind (arith, nat_tests)
 
 -- what an admitted report did to the book
 data Done (r : Report) (b : Book) : Book → Type 0 where
@@ -34,36 +26,25 @@ data Done (r : Report) (b : Book) : Book → Type 0 where
 
 module _ (r : Report) (b : Book) where
   done_on : (acc : Account) (o : Option Account) → (b r.address).open_at ≡ Some acc → read r.elapsed acc ≡ o → (b' : Book) → going_on b r o ≡ Ok b' → Done r b b'
-  done_on acc None is e b' h = absurd (ok_not_err h)
+  done_on acc None is e b' h = cc
   done_on acc (Some x) is e b' h = subst (Done r b) (same_book h) (on acc x is e)
 
   done_first : (o : Option Account) → (b r.address).open_at ≡ None → (b' : Book) → opening b r o ≡ Ok b' → Done r b b'
-  done_first None is b' h = absurd (ok_not_err h)
-  done_first (Some x) is b' h = go (leb open_accounts (many (is_open b))) refl h
-    where
-      go : (v : Bool) → leb open_accounts (many (is_open b)) ≡ v → cond v (Err AccountsFull) (Ok (written b r.address (settled r (b r.address).closed x))) ≡ Ok b' → Done r b b'
-      go true e f = absurd (ok_not_err f)
-      go false e f = subst (Done r b) (same_book f) (first x is (less_than (many (is_open b)) open_accounts e))
+  done_first None is b' h = cc
+  done_first (Some x) is b' h = elim (cases_Bool (leb open_accounts (many (is_open b)))) [
+    | inl e ↦ let f = rw e at h in cc
+    | inr e ↦ subst (Done r b) (same_book (rw e at h)) (first x is (leb-false open_accounts (many (is_open b)) e))
+  ]
 
   done_by : (o : Option Account) → (b r.address).open_at ≡ o → (b' : Book) → by_open b r o ≡ Ok b' → Done r b b'
-  done_by None is b' h = go (eqb r.number 1) h
-    where
-      go : (v : Bool) → cond v (opening b r (read r.elapsed opened)) (Err AccountRule) ≡ Ok b' → Done r b b'
-      go true f = done_first (read r.elapsed opened) is b' f
-      go false f = absurd (ok_not_err f)
-  done_by (Some acc) is b' h = go (eqb r.number acc.last) (eqb r.number (acc.last + 1)) h
-    where
-      go : (v w : Bool) → cond v (Ok b) (cond w (going_on b r (read r.elapsed acc)) (Err AccountRule)) ≡ Ok b' → Done r b b'
-      go true w f = subst (Done r b) (same_book f) (repeat acc is)
-      go false true f = done_on acc (read r.elapsed acc) is refl b' f
-      go false false f = absurd (ok_not_err f)
+  done_by None is b' h = elim (cases_Bool (eqb r.number 1)) [ inl e ↦ done_first (read r.elapsed opened) is b' (rw e at h) | inr e ↦ let f = rw e at h in cc ]
+  done_by (Some acc) is b' h = elim (cases_Bool (eqb r.number acc.last)) [
+    | inl e ↦ subst (Done r b) (same_book (rw e at h)) (repeat acc is)
+    | inr e ↦ elim (cases_Bool (eqb r.number (acc.last + 1))) [ inl f ↦ done_on acc (read r.elapsed acc) is refl b' (rw (e, f) at h) | inr f ↦ let g = rw (e, f) at h in cc ]
+  ]
 
   admitted : (b' : Book) → read_one r b ≡ Ok b' → (lawful r ≡ true) × Done r b b'
-  admitted b' h = go (lawful r) refl h
-    where
-      go : (v : Bool) → lawful r ≡ v → cond v (by_open b r (b r.address).open_at) (Err OutOfRange) ≡ Ok b' → (lawful r ≡ true) × Done r b b'
-      go true e f = (e, done_by (b r.address).open_at refl b' f)
-      go false e f = absurd (ok_not_err f)
+  admitted b' h = elim (cases_Bool (lawful r)) [ inl e ↦ (e, done_by (b r.address).open_at refl b' (rw e at h)) | inr e ↦ let f = rw e at h in cc ]
 
 -- a step of the rule makes no ticks fewer
 abbrev Grown : Account → Option Account → Type 0
@@ -71,22 +52,13 @@ Grown acc None = Unit {0}
 Grown acc (Some x) = (k : ℕ) → acc.ticks k ≤ x.ticks k
 
 becomes_grown : (n : ℕ) (acc : Account) → Grown acc (becomes n acc)
-becomes_grown n acc = go (leb (acc.ticks acc.current) n) refl
+becomes_grown n acc = cond_both (leb (acc.ticks acc.current) n) _ _ (Grown acc) (λ e k. at k (leb-true (acc.ticks acc.current) n e)) (λ _. tt)
   where
-    at : leb (acc.ticks acc.current) n ≡ true → (k : ℕ) → (v : Bool) → eqb k acc.current ≡ v → acc.ticks k ≤ cond v n (acc.ticks k)
-    at e k true f = let here : k ≡ acc.current = grind (arith, nat_tests) in let l = leb-true (acc.ticks acc.current) n e in subst (λ j. acc.ticks j ≤ n) (sym here) l
-    at e k false f = omega arith
-
-    go : (v : Bool) → leb (acc.ticks acc.current) n ≡ v → Grown acc (cond v (Some (record { last = acc.last; current = acc.current; ticks = upd acc.ticks acc.current n })) None)
-    go true e = λ k. at e k (eqb k acc.current) refl
-    go false e = tt
+    at : (k : ℕ) → acc.ticks acc.current ≤ n → acc.ticks k ≤ upd acc.ticks acc.current n k
+    at k l = elim (cases_Bool (eqb k acc.current)) [ inl e ↦ rw (e, eqb-true k acc.current e) l | inr e ↦ rw e (omega arith) ]
 
 next_grown : (acc : Account) → Grown acc (next acc)
-next_grown acc = go (ltb acc.current tariffs)
-  where
-    go : (v : Bool) → Grown acc (cond v (Some (record { last = acc.last; current = acc.current + 1; ticks = acc.ticks })) None)
-    go true = λ k. omega arith
-    go false = tt
+next_grown acc = cond_both (ltb acc.current tariffs) _ _ (Grown acc) (λ _ k. omega arith) (λ _. tt)
 
 then_grown : (acc : Account) (o : Option Account) (f : Account → Option Account) → Grown acc o → ((x : Account) → Grown x (f x)) → Grown acc (then_in o f)
 then_grown acc None f h g = tt
@@ -97,28 +69,19 @@ then_grown acc (Some x) f h g = both (f x) (g x)
     both (Some y) l = λ k. let p = h k in let q = l k in omega arith
 
 past_grown : (acc : Account) → Grown acc (past_first acc)
-past_grown acc = go (eqb acc.current 1) (eqb (acc.ticks 1) 0)
-  where
-    go : (v w : Bool) → Grown acc (cond v (cond w (next acc) None) (Some acc))
-    go true true = next_grown acc
-    go true false = tt
-    go false w = λ k. omega arith
+past_grown acc = cond_both (eqb acc.current 1) _ _ (Grown acc) (λ _. cond_both (eqb (acc.ticks 1) 0) _ _ (Grown acc) (λ _. next_grown acc) (λ _. tt)) (λ _ k. omega arith)
 
 read_grown : (e : Elapsed) (acc : Account) → Grown acc (read e acc)
-read_grown (Plain n) acc = go (eqb acc.current 1)
-  where
-    go : (v : Bool) → Grown acc (cond v (becomes n acc) None)
-    go true = becomes_grown n acc
-    go false = tt
+read_grown (Plain n) acc = cond_both (eqb acc.current 1) _ _ (Grown acc) (λ _. becomes_grown n acc) (λ _. tt)
 read_grown (Switched n None) acc = then_grown acc (past_first acc) (becomes n) (past_grown acc) (becomes_grown n)
 read_grown (Switched n (Some i)) acc = then_grown acc (becomes i acc) (λ x. then_in (next x) (becomes n)) (becomes_grown i acc) (λ x. then_grown x (next x) (becomes n) (next_grown x) (becomes_grown n))
 
 module _ (r : Report) (b : Book) where
   at_own : (s : Slot) → written b r.address s r.address ≡ s
-  at_own s = ap (λ v. cond v s (b r.address)) (same_self r.address)
+  at_own s = rw same_self
 
   newest_settled : (acc : Account) (closed : List Account) → newest (settled r closed acc) ≡ Some (numbered r.number acc)
-  newest_settled acc closed = elim (is_active r.standing) as (λ v. newest (cond v (record { open_at = Some (numbered r.number acc); closed = closed }) (record { open_at = None; closed = numbered r.number acc ∷ closed })) ≡ Some (numbered r.number acc)) [ true ↦ refl | false ↦ refl ]
+  newest_settled acc closed = elim (cases_Bool (is_active r.standing)) [ inl e ↦ rw e | inr e ↦ rw e ]
 
   fewer_not : (acc : Account) → (b r.address).open_at ≡ Some acc → (b' : Book) → Done r b b' → NoFewer acc (newest (b' r.address))
   fewer_not acc is b' (repeat x at) = subst (NoFewer acc) (sym (ap (λ o. newest (record { open_at = o; closed = (b r.address).closed })) is)) (λ k. omega arith)
@@ -126,15 +89,15 @@ module _ (r : Report) (b : Book) where
       let own : acc ≡ x = let q : Some acc ≡ Some x = sym is ∙ at in cc in
       let grown = subst (Grown x) e (read_grown r.elapsed x) in
       subst (NoFewer acc) (sym (ap newest (at_own (settled r (b r.address).closed y)) ∙ newest_settled y (b r.address).closed)) (λ k. subst (λ (z : Account). z.ticks k ≤ y.ticks k) (sym own) (grown k))
-  fewer_not acc is b' (first y at l) = absurd (let q : None ≡ Some acc = sym at ∙ is in let w : ◌≡◌ {A = ℕ} 0 1 = cc in omega arith)
+  fewer_not acc is b' (first y at l) = let q : None ≡ Some acc = sym at ∙ is in cc
 
   others_stay : (b' : Book) → Done r b b' → (x : Address) → same x r.address ≡ false → b' x ≡ b x
   others_stay b' (repeat acc at) x e = refl
-  others_stay b' (on acc y at f) x e = ap (λ v. cond v (settled r (b r.address).closed y) (b x)) e
-  others_stay b' (first y at l) x e = ap (λ v. cond v (settled r (b r.address).closed y) (b x)) e
+  others_stay b' (on acc y at f) x e = rw e
+  others_stay b' (first y at l) x e = rw e
 
   settled_closed : (acc : Account) (closed : List Account) → ((settled r closed acc).closed ≡ closed) ⊎ ((y : Account) × ((settled r closed acc).closed ≡ y ∷ closed))
-  settled_closed acc closed = elim (is_active r.standing) as (λ v. ((cond {A = Slot} v (record { open_at = Some (numbered r.number acc); closed = closed }) (record { open_at = None; closed = numbered r.number acc ∷ closed })).closed ≡ closed) ⊎ ((y : Account) × ((cond {A = Slot} v (record { open_at = Some (numbered r.number acc); closed = closed }) (record { open_at = None; closed = numbered r.number acc ∷ closed })).closed ≡ y ∷ closed))) [ true ↦ inl refl | false ↦ inr (numbered r.number acc, refl) ]
+  settled_closed acc closed = elim (cases_Bool (is_active r.standing)) [ inl e ↦ rw e (inl refl) | inr e ↦ rw e (inr (numbered r.number acc, refl)) ]
 
   ClosedSo : (Slot) → (x : Address) → Type 0
   ClosedSo s x = (s.closed ≡ (b x).closed) ⊎ ((acc : Account) × (s.closed ≡ acc ∷ (b x).closed))
@@ -145,7 +108,7 @@ module _ (r : Report) (b : Book) where
     | inl t ↦
         let is = same_address x r.address t in
         subst (λ z. ClosedSo (written b r.address (settled r (b r.address).closed y) z) z) (sym is) (subst (λ s. ClosedSo s r.address) (sym (at_own (settled r (b r.address).closed y))) (settled_closed y (b r.address).closed))
-    | inr f ↦ inl (ap (λ (s : Slot). s.closed) (ap (λ v. cond v (settled r (b r.address).closed y) (b x)) f))
+    | inr f ↦ rw f (inl refl)
   ]
 
   closed_kept : (b' : Book) → Done r b b' → (x : Address) → ((b' x).closed ≡ (b x).closed) ⊎ ((acc : Account) × ((b' x).closed ≡ acc ∷ (b x).closed))

@@ -1,13 +1,13 @@
 -- A report that is read at records is read by the account rule. Assumes nothing.
-use Rattle.std.proofs.Common.{◌≡◌, ℕ, ◌+◌, ◌<◌, ◌≤◌, Bool, true, false, cond, not, eqb, leb, List, ◌∷◌, length, get_or, set, is_some, Some, None, Ok, Err, Option, Result, sym, refl, ap, ◌∙◌, subst, inl, inr, arith, length-take}
-use Rattle.std.proofs.lemmas.Bool.{and_parts, and_from, and_left, cases_Bool, cond-true, cond-false, ltb-true, lt-leb, le-leb, not-true, false≢true}
+use Rattle.std.proofs.Common.{◌≡◌, ℕ, ◌+◌, ◌<◌, Bool, true, false, cond, not, eqb, leb, List, ◌∷◌, length, get_or, set, is_some, Some, None, Ok, Err, Option, Result, sym, refl, ap, ◌∙◌, subst, inl, inr, arith, length-take}
+use Rattle.std.proofs.lemmas.Bool.{and_parts, and_from, and_left, cases_Bool, cond-true, cond-false, ltb-true, not-true, false≢true}
+use Rattle.std.proofs.lemmas.Bool.Decides.{nat_tests}
 use Rattle.std.proofs.lemmas.List.{length-set}
 use Rattle.std.proofs.Math.Seq.{take-set-lt}
 use Rattle.std.specs.List.{position_or_len, count_by}
 use Rattle.report.specs.declared.report.Address.{Address}
 use Rattle.report.specs.declared.report.Report.{Report}
 use Rattle.report.specs.declared.refusal.Refusal.{Refusal}
-use Rattle.report.specs.declared.refusal.Refusal.TheVariants.{OutOfRange, AccountRule, AccountsFull}
 use Rattle.report.specs.Lawful.{same, lawful, is_active}
 use Rattle.report.specs.Limits.{open_accounts}
 use Rattle.report.proofs.Addresses.{same_address, same_self, lawful_there}
@@ -32,31 +32,26 @@ onto b a (Ok s) = Ok (after s.status b a s.account)
 
 module _ (b : Book) (r : Report) where
   settled_is : (acc : Account) → written b r.address (settled r (b r.address).closed acc) ≡ after (status_of r) b r.address (numbered r.number acc)
-  settled_is acc = elim (is_active r.standing) as (λ v. written b r.address (cond v (record { open_at = Some (numbered r.number acc); closed = (b r.address).closed }) (record { open_at = None; closed = numbered r.number acc ∷ (b r.address).closed })) ≡ after (cond v Open Closed) b r.address (numbered r.number acc)) [ true ↦ refl | false ↦ refl ]
+  settled_is acc = elim (cases_Bool (is_active r.standing)) [ inl e ↦ rw e | inr e ↦ rw e ]
 
   left_is : (o : Option Account) → going_on b r o ≡ onto b r.address (said_of_left r o)
   left_is None = refl
   left_is (Some acc) = ap Ok (settled_is acc)
 
   open_is : (acc : Account) → by_open b r (Some acc) ≡ onto b r.address (said_of_open acc r)
-  open_is acc = go (eqb r.number acc.last) (eqb r.number (acc.last + 1))
-    where
-      go : (v w : Bool) → cond v (Ok b) (cond w (going_on b r (read r.elapsed acc)) (Err AccountRule)) ≡ onto b r.address (cond v (Ok (record { status = Repeat; account = acc })) (cond w (said_of_left r (read r.elapsed acc)) (Err AccountRule)))
-      go true w = refl
-      go false true = left_is (read r.elapsed acc)
-      go false false = refl
+  open_is acc =
+      elim (cases_Bool (eqb r.number acc.last)) [
+        | inl e ↦ rw e
+        | inr e ↦ elim (cases_Bool (eqb r.number (acc.last + 1))) [ inl f ↦ rw (e, f) (left_is (read r.elapsed acc)) | inr f ↦ rw (e, f) ]
+      ]
 
   opening_is : (free : Bool) (o : Option Account) → leb open_accounts (many (is_open b)) ≡ not free → opening b r o ≡ onto b r.address (if_free free (said_of_left r o))
   opening_is free None e = refl
-  opening_is true (Some acc) e = ap (λ v. cond v (Err AccountsFull) (Ok (written b r.address (settled r (b r.address).closed acc)))) e ∙ ap Ok (settled_is acc)
-  opening_is false (Some acc) e = ap (λ v. cond v (Err AccountsFull) (Ok (written b r.address (settled r (b r.address).closed acc)))) e
+  opening_is true (Some acc) e = rw e (ap Ok (settled_is acc))
+  opening_is false (Some acc) e = rw e
 
   first_is : (free : Bool) → leb open_accounts (many (is_open b)) ≡ not free → by_open b r None ≡ onto b r.address (if_free free (said_of_first r))
-  first_is free e = go (eqb r.number 1)
-    where
-      go : (v : Bool) → cond v (opening b r (read r.elapsed opened)) (Err AccountRule) ≡ onto b r.address (if_free free (cond v (said_of_left r (read r.elapsed opened)) (Err AccountRule)))
-      go true = opening_is free (read r.elapsed opened) e
-      go false = refl
+  first_is free e = elim (cases_Bool (eqb r.number 1)) [ inl f ↦ rw f (opening_is free (read r.elapsed opened) e) | inr f ↦ rw f ]
 
   -- what is said of a report is the rule's status and the newest account after it
   abbrev RightSaid : Result Said Refusal → Type 0
@@ -64,34 +59,33 @@ module _ (b : Book) (r : Report) where
   RightSaid (Ok s) = (s.status ≡ status_at r (b r.address).open_at) × (newest (after s.status b r.address s.account r.address) ≡ Some s.account)
 
   here : (s : Slot) → newest (written b r.address s r.address) ≡ newest s
-  here s = ap (λ v. newest (cond v s (b r.address))) (same_self r.address)
+  here s = rw same_self
 
   newest_left : (acc : Account) → newest (after (status_of r) b r.address acc r.address) ≡ Some acc
-  newest_left acc = elim (is_active r.standing) as (λ v. newest (after (cond v Open Closed) b r.address acc r.address) ≡ Some acc) [ true ↦ here (record { open_at = Some acc; closed = (b r.address).closed }) | false ↦ here (record { open_at = None; closed = acc ∷ (b r.address).closed }) ]
+  newest_left acc = elim (cases_Bool (is_active r.standing)) [ inl e ↦ rw (e, same_self) | inr e ↦ rw (e, same_self) ]
 
   right_left : (o : Option Account) → status_of r ≡ status_at r (b r.address).open_at → RightSaid (said_of_left r o)
   right_left None e = tt
   right_left (Some acc) e = (e, newest_left (numbered r.number acc))
 
   right_open : (acc : Account) → (b r.address).open_at ≡ Some acc → RightSaid (said_of_open acc r)
-  right_open acc is = go (eqb r.number acc.last) (eqb r.number (acc.last + 1)) refl
-    where
-      go : (v w : Bool) → eqb r.number acc.last ≡ v → RightSaid (cond v (Ok (record { status = Repeat; account = acc })) (cond w (said_of_left r (read r.elapsed acc)) (Err AccountRule)))
-      go true w e = (sym (ap (status_at r) is ∙ ap (λ v. cond v Repeat (status_of r)) e), ap (λ o. newest (record { open_at = o; closed = (b r.address).closed })) is)
-      go false true e = right_left (read r.elapsed acc) (sym (ap (status_at r) is ∙ ap (λ v. cond v Repeat (status_of r)) e))
-      go false false e = tt
+  right_open acc is =
+      elim (cases_Bool (eqb r.number acc.last)) [
+        | inl e ↦ rw (e, is, e) (refl, refl)
+        | inr e ↦ elim (cases_Bool (eqb r.number (acc.last + 1))) [ inl f ↦ rw (e, f) (right_left (read r.elapsed acc) (rw (is, e))) | inr f ↦ rw (e, f) tt ]
+      ]
 
   right_first : (free : Bool) → (b r.address).open_at ≡ None → RightSaid (if_free free (said_of_first r))
-  right_first free is = go (eqb r.number 1)
+  right_first free is =
+      elim (cases_Bool (eqb r.number 1)) [
+        | inl e ↦ rw e (if_right (said_of_left r (read r.elapsed opened)) free (right_left (read r.elapsed opened) (rw is)))
+        | inr e ↦ rw e tt
+      ]
     where
       if_right : (o : Result Said Refusal) (f : Bool) → RightSaid o → RightSaid (if_free f o)
       if_right (Err e) f h = tt
       if_right (Ok s) true h = h
       if_right (Ok s) false h = tt
-
-      go : (v : Bool) → RightSaid (if_free free (cond v (said_of_left r (read r.elapsed opened)) (Err AccountRule)))
-      go true = if_right (said_of_left r (read r.elapsed opened)) free (right_left (read r.elapsed opened) (sym (ap (status_at r) is)))
-      go false = tt
 
 -- Where the record for a report lies among those that count: it alone can be open for the address, and it is open for no other.
 record Spot (ys : List AccountRecord) (b : Book) (a : Address) (n : ℕ) : Type 0 where
@@ -134,45 +128,43 @@ module _ (ys : List AccountRecord) (b : Book) (a : Address) (old : LieIn ys b) w
         was = ap is_some (none_found e) ∙ sym closed;
       }
 
-err_not_ok : {e : Refusal} {s : Said} → Err e ≡ Ok s → ⊥
-err_not_ok h = let w : ◌≡◌ {A = ℕ} 0 1 = cc in omega arith
-
 -- where something is said of a first report, a record is free for its account
 said_free : (free : Bool) (o : Result Said Refusal) (s : Said) → if_free free o ≡ Ok s → free ≡ true
 said_free true o s e = refl
-said_free false (Err x) s e = absurd (err_not_ok e)
-said_free false (Ok x) s e = absurd (err_not_ok e)
+said_free false (Err x) s e = cc
+said_free false (Ok x) s e = cc
+
+-- an account can be opened while fewer are open than there are records
+fewer : (m o l n : ℕ) → m ≡ o → o < l → l ≡ n → leb n m ≡ false
+fewer m o l n p q e = grind (arith, nat_tests)
+
+as_many : (m o l n : ℕ) → m ≡ o → o ≡ l → l ≡ n → leb n m ≡ true
+as_many m o l n p q e = grind (arith, nat_tests)
 
 module _ (ys : List AccountRecord) (b : Book) (r : Report) (old : LieIn ys b) (all : length ys ≡ open_accounts) where
   full : leb open_accounts (many (is_open b)) ≡ not (has is_closed ys)
   full = elim (cases_Bool (has is_closed ys)) [
-    | inl free ↦ lt-leb open_accounts (many (is_open b)) (fewer (many (is_open b)) (count_by open_record ys) (length ys) open_accounts old.count (opens_less ys free) all) ∙ sym (ap not free)
-    | inr none ↦ le-leb open_accounts (many (is_open b)) (as_many (many (is_open b)) (count_by open_record ys) (length ys) open_accounts old.count (opens_full ys none) all) ∙ sym (ap not none)
+    | inl free ↦ rw free (fewer (many (is_open b)) (count_by open_record ys) (length ys) open_accounts old.count (opens_less ys free) all)
+    | inr none ↦ rw none (as_many (many (is_open b)) (count_by open_record ys) (length ys) open_accounts old.count (opens_full ys none) all)
   ]
-    where
-      fewer : (m o l n : ℕ) → m ≡ o → o < l → l ≡ n → m < n
-      fewer m o l n p q e = omega arith
-
-      as_many : (m o l n : ℕ) → m ≡ o → o ≡ l → l ≡ n → n ≤ m
-      as_many m o l n p q e = omega arith
 
   -- what the rule makes of a report is what is said of it at the records
   rule_is : by_open b r (b r.address).open_at ≡ onto b r.address (said_in ys r)
   rule_is = elim (cases_Bool (has (open_for r.address) ys)) [
-    | inl e ↦ ap (by_open b r) (found ys b r.address old e) ∙ (open_is b r (account_of (get_or ys (position_or_len (open_for r.address) ys) no_record)) ∙ ap (onto b r.address) (sym (cond-true (has (open_for r.address) ys) _ _ e)))
-    | inr e ↦ ap (by_open b r) (none_found ys b r.address old e) ∙ (first_is b r (has is_closed ys) full ∙ ap (onto b r.address) (sym (cond-false (has (open_for r.address) ys) _ _ e)))
+    | inl e ↦ rw (e, found ys b r.address old e) (open_is b r (account_of (get_or ys (position_or_len (open_for r.address) ys) no_record)))
+    | inr e ↦ rw (e, none_found ys b r.address old e) (first_is b r (has is_closed ys) full)
   ]
 
   right_in : RightSaid b r (said_in ys r)
   right_in = elim (cases_Bool (has (open_for r.address) ys)) [
-    | inl e ↦ subst (RightSaid b r) (sym (cond-true (has (open_for r.address) ys) _ _ e)) (right_open b r (account_of (get_or ys (position_or_len (open_for r.address) ys) no_record)) (found ys b r.address old e))
-    | inr e ↦ subst (RightSaid b r) (sym (cond-false (has (open_for r.address) ys) _ _ e)) (right_first b r (has is_closed ys) (none_found ys b r.address old e))
+    | inl e ↦ rw e (right_open b r (account_of (get_or ys (position_or_len (open_for r.address) ys) no_record)) (found ys b r.address old e))
+    | inr e ↦ rw e (right_first b r (has is_closed ys) (none_found ys b r.address old e))
   ]
 
   spot_for : (s : Said) → said_in ys r ≡ Ok s → Spot ys b r.address (place_for r ys)
   spot_for s h = elim (cases_Bool (has (open_for r.address) ys)) [
-    | inl e ↦ subst (Spot ys b r.address) (sym (cond-true (has (open_for r.address) ys) _ _ e)) (spot_open ys b r.address old e)
-    | inr e ↦ subst (Spot ys b r.address) (sym (cond-false (has (open_for r.address) ys) _ _ e)) (spot_closed ys b r.address old e (said_free (has is_closed ys) (said_of_first r) s (sym (cond-false (has (open_for r.address) ys) _ _ e) ∙ h)))
+    | inl e ↦ rw e (spot_open ys b r.address old e)
+    | inr e ↦ rw e (spot_closed ys b r.address old e (said_free (has is_closed ys) (said_of_first r) s (rw e at h)))
   ]
 
 module _ (xs new : List AccountRecord) (b : Book) (r : Report) (ok : lawful r ≡ true) (old : Holds xs b) where
@@ -197,9 +189,6 @@ module _ (xs new : List AccountRecord) (b : Book) (r : Report) (ok : lawful r �
   holds_after x Closed h a o is = holds_set closed_record (record { open_at = None; closed = account_of x.account ∷ (b r.address).closed }) (says x) h refl refl is
   holds_after x Repeat h a o is = subst (λ zs. Holds zs b) (sym is) old
 
-unlawful : (xs : List AccountRecord) (r : Report) → lawful r ≡ false → said xs r ≡ Err OutOfRange
-unlawful xs r e = cond-false (lawful r) _ _ e
-
 -- Reading a report at records that hold a book is reading it by the rule.
 pub follows : (xs new : List AccountRecord) (b : Book) (r : Report) (x : Result Reading Refusal) → Answers (said xs r) r x → Leaves xs r x new → Holds xs b → Follows b r x new
 follows xs new b r (Err e) h l old = elim (cases_Bool (lawful r)) [
@@ -216,5 +205,5 @@ follows xs new b r (Ok x) h l old = elim (cases_Bool (lawful r)) [
         right.1,
         right.0,
       )
-  | inr no-law ↦ absurd (err_not_ok (sym (unlawful xs r no-law) ∙ h.0))
+  | inr no-law ↦ let e = sym (cond-false (lawful r) _ _ no-law) ∙ h.0 in cc
 ]
