@@ -1,6 +1,6 @@
 -- The first record that passes a test, of those that count. Assumes nothing.
-use Rattle.std.proofs.Common.{◌≡◌, ℕ, ◌<◌, Bool, true, false, cond, List, get_or, Some, None, sym, refl, arith, length-take}
-use Rattle.std.proofs.lemmas.Bool.{and_parts}
+use Rattle.std.proofs.Common.{◌≡◌, ℕ, ◌<◌, Bool, true, List, get_or, Some, sym, inl, inr, arith, length-take}
+use Rattle.std.proofs.lemmas.Bool.{and_parts, cases_Bool}
 use Rattle.std.proofs.lemmas.List.{get_or-take}
 use Rattle.std.proofs.lemmas.List.Quantifiers.{position-Some}
 use Rattle.std.specs.List.{position, position_or_len}
@@ -11,19 +11,8 @@ use Rattle.account.specs.declared.record.AccountRecord.{AccountRecord}
 use Rattle.account.specs.Records.{no_record, counting, has, open_record, open_for}
 
 -- whether a record passes, and where the first one is, by what a search for it gives
-found_so : (v : Bool) (n i : ℕ) → Some i ≡ cond v (Some n) None → (v ≡ true) × (i ≡ n)
-found_so true n i e = (refl, (cc))
-found_so false n i e = cc
-
 pub found : (p : AccountRecord → Bool) (xs : List AccountRecord) (i : ℕ) → Some i ≡ position p xs → (has p xs ≡ true) × (i ≡ position_or_len p xs)
-found p xs i e = found_so (has p xs) (position_or_len p xs) i e
-
-not_found_so : (v : Bool) (n : ℕ) → None ≡ cond v (Some n) None → v ≡ false
-not_found_so true n e = cc
-not_found_so false n e = refl
-
-pub not_found : (p : AccountRecord → Bool) (xs : List AccountRecord) → None ≡ position p xs → has p xs ≡ false
-not_found p xs e = not_found_so (has p xs) (position_or_len p xs) e
+found p xs i e = elim (cases_Bool (has p xs)) [ inl h ↦ let f = rw h at e in (h, (cc)) | inr h ↦ let f = rw h at e in cc ]
 
 -- a record that was found as the open account of an address
 pub record OpenThere (xs : List AccountRecord) (a : Address) (i : ℕ) : Type 0 where

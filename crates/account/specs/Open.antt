@@ -1,5 +1,6 @@
 -- Steps of the account rule on an account that is open. Assumes nothing.
 use Rattle.std.specs.Prelude.{◌≡◌, ℕ, List, true, false, Some, None, Ok, Err, Option, Result, slice_index_or}
+use Rattle.std.specs.List.{position_or_len}
 use Rattle.report.specs.declared.report.Address.{Address}
 use Rattle.report.specs.declared.refusal.Refusal.{Refusal}
 use Rattle.report.specs.declared.refusal.Refusal.TheVariants.{AccountRule}
@@ -7,7 +8,6 @@ use Rattle.account.specs.declared.record.AccountRecord.{AccountRecord}
 use Rattle.account.specs.declared.record.Status.{Status}
 use Rattle.account.specs.declared.open_account.OpenAccount.{OpenAccount}
 use Rattle.account.specs.Rule.{Account}
-use Rattle.std.specs.List.{position_or_len}
 use Rattle.account.specs.Records.{Said, account_of, open_for, has, no_record}
 
 -- A step of the rule on one account, done to its record: the account that the rule leaves, at the same address, or a refusal where it leaves none.
@@ -15,10 +15,10 @@ abbrev pub Moves : OpenAccount → Option Account → Result (Unit {0}) Refusal 
 Moves x o (Ok _) y = (o ≡ Some (account_of y.record)) × (y.record.address ≡ x.record.address)
 Moves x o (Err e) y = (o ≡ None) × (e ≡ AccountRule)
 
--- What a report makes of an account, by what is said of it: what became of the account, and the account that is left, at the same address; or a refusal.
-abbrev pub Becomes : OpenAccount → Result Said Refusal → Result Status Refusal → OpenAccount → Type 0
-Becomes x o (Ok s) y = (o ≡ Ok (record { status = s; account = account_of y.record })) × (y.record.address ≡ x.record.address)
-Becomes x o (Err e) y = o ≡ Err e
+-- An account takes a report by what is said of that: it is left as said, at the same address, with what became of it; or the report is refused as said.
+abbrev pub TakesReport : OpenAccount → Result Said Refusal → Result Status Refusal → OpenAccount → Type 0
+TakesReport x o (Ok s) y = (o ≡ Ok (record { status = s; account = account_of y.record })) × (y.record.address ≡ x.record.address)
+TakesReport x o (Err e) y = o ≡ Err e
 
 -- the first record that is the open account of an address, with its place, or none
 abbrev pub OpenAt : List AccountRecord → Address → Option (ℕ × OpenAccount) → Type 0

@@ -17,7 +17,7 @@ pub(crate) struct OpenAccount {
 impl OpenAccount {
     ghost use Rattle.account.specs.Rule.{becomes, next, past_first, read, opened};
     ghost use Rattle.account.specs.Records.{account_of, said_of_left, said_of_open, said_of_first, Answers};
-    ghost use Rattle.account.specs.Open.{Moves, Becomes};
+    ghost use Rattle.account.specs.Open.{Moves, TakesReport};
 
     // A new account of an address, with nothing read into it.
     fn new(address: Address) -> OpenAccount
@@ -95,7 +95,7 @@ impl OpenAccount {
 
     // What becomes of the account by a report that it does not repeat.
     fn grow(&mut self, report: &Report) -> Result<Status, Refusal>
-        ensures { Becomes self.old (said_of_left report.now (read report.now.elapsed (account_of self.old.record))) result self.new }
+        ensures { TakesReport self.old (said_of_left report.now (read report.now.elapsed (account_of self.old.record))) result self.new }
     {
         self.read_elapsed(report.elapsed)?;
         self.record.last = report.number;
@@ -108,7 +108,7 @@ impl OpenAccount {
 
     // What becomes of the account by a report.
     pub(crate) fn read(&mut self, report: &Report) -> Result<Status, Refusal>
-        ensures { Becomes self.old (said_of_open (account_of self.old.record) report.now) result self.new }
+        ensures { TakesReport self.old (said_of_open (account_of self.old.record) report.now) result self.new }
     {
         if report.number == self.record.last {
             return Ok(Status::Repeat);
@@ -128,9 +128,7 @@ impl OpenAccount {
         }
         let mut account = OpenAccount::new(report.address);
         let status = account.grow(report)?;
-        Ok(Reading {
-            status,
-            account: account.record,
-        })
+        let account = account.record;
+        Ok(Reading { status, account })
     }
 }

@@ -39,12 +39,8 @@ fn find_open(records: &[AccountRecord], address: Address) -> Option<(usize, Open
     ensures some { IfSome result (λ x. x.0 < length records.now) }
 {
     let at = place_of_open(records, address)?;
-    Some((
-        at,
-        OpenAccount {
-            record: records[at],
-        },
-    ))
+    let record = records[at];
+    Some((at, OpenAccount { record }))
 }
 
 // Keeps the account of a reading in the record at a place, or closes it there.
@@ -68,13 +64,8 @@ fn find_reading(records: &[AccountRecord], report: &Report) -> Result<(usize, Re
     }
     if let Some((at, mut account)) = find_open(records, report.address) {
         let status = account.read(report)?;
-        return Ok((
-            at,
-            Reading {
-                status,
-                account: account.record,
-            },
-        ));
+        let account = account.record;
+        return Ok((at, Reading { status, account }));
     }
     let reading = OpenAccount::read_first(report)?;
     let at = place_of_closed(records).ok_or(Refusal::AccountsFull)?;
