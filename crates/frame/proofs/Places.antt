@@ -1,18 +1,17 @@
 -- Where the fields of a frame stand. Assumes nothing.
 use Rattle.std.proofs.Common.{◌≡◌, ℕ, zero, suc, ◌+◌, ◌-◌, ◌<◌, ◌≤◌, List, [], ◌∷◌, length, get_or, take, drop, refl, ap, ◌∙◌, arith, drop-cons}
-use Rattle.std.proofs.lemmas.List.{get_or-take, get_or-drop, take_rest, drop-drop}
+use Rattle.std.proofs.lemmas.List.{get_or-drop, take_rest, drop-drop}
 use Rattle.frame.specs.Bytes.{at16, at32}
 
 -- the bytes after the four of a slice pattern, as the checker has them
 abbrev pub rest : List ℕ → List ℕ
 rest b = take (length b - 4) (drop 4 b)
 
--- a byte of the fields is the byte four places further on of the frame
-placed : (b f : List ℕ) → f ≡ take 20 (rest b) → (k : ℕ) → k < 20 → get_or f k 0 ≡ get_or b (4 + k) 0
-placed b f e k h =
-    ap (λ (l : List ℕ). get_or l k 0) (e ∙ ap (take 20) (take_rest b 4)) ∙ get_or-take 20 (drop 4 b) k 0 h ∙ get_or-drop 4 b k 0
+-- a byte after the four is the byte four places further on of the frame
+placed : (b : List ℕ) (k : ℕ) → get_or (rest b) k 0 ≡ get_or b (4 + k) 0
+placed b k = ap (λ (l : List ℕ). get_or l k 0) (take_rest b 4) ∙ get_or-drop 4 b k 0
 
--- the same of each field
+-- a frame's fields, by their places in the bytes f after the four
 pub record Placed (b f : List ℕ) : Type 0 where
   pub kind : get_or f 0 0 ≡ get_or b 4 0
   pub address : get_or f 1 0 ≡ get_or b 5 0
@@ -24,19 +23,19 @@ pub record Placed (b f : List ℕ) : Type 0 where
   pub time : at32 f 12 ≡ at32 b 16
   pub interval : at32 f 16 ≡ at32 b 20
 
-pub all_placed : (b f : List ℕ) → f ≡ take 20 (rest b) → Placed b f
-all_placed b f e =
-    let p = placed b f e in
+pub all_placed : (b : List ℕ) → Placed b (rest b)
+all_placed b =
+    let p = placed b in
     record {
-      kind = p 0 (omega arith);
-      address = p 1 (omega arith);
-      number = omega (arith, p 2 (omega arith), p 3 (omega arith));
-      flags = p 4 (omega arith);
-      party = p 5 (omega arith);
-      zeros = omega (arith, p 6 (omega arith), p 7 (omega arith));
-      tick = omega (arith, p 8 (omega arith), p 9 (omega arith), p 10 (omega arith), p 11 (omega arith));
-      time = omega (arith, p 12 (omega arith), p 13 (omega arith), p 14 (omega arith), p 15 (omega arith));
-      interval = omega (arith, p 16 (omega arith), p 17 (omega arith), p 18 (omega arith), p 19 (omega arith));
+      kind = p 0;
+      address = p 1;
+      number = omega (arith, p 2, p 3);
+      flags = p 4;
+      party = p 5;
+      zeros = omega (arith, p 6, p 7);
+      tick = omega (arith, p 8, p 9, p 10, p 11);
+      time = omega (arith, p 12, p 13, p 14, p 15);
+      interval = omega (arith, p 16, p 17, p 18, p 19);
     }
 
 -- n bytes from place i on, one by one
@@ -56,5 +55,5 @@ pub spelled : (b : List ℕ) → 24 ≤ length b → take 24 b ≡ listing 24 0 
 spelled b h = listed_from 24 0 b h
 
 -- what stands after the fields stands after the frame
-pub rest_drop : (b : List ℕ) → drop 20 (rest b) ≡ drop 24 b
-rest_drop b = ap (drop 20) (take_rest b 4) ∙ drop-drop 20 4 b
+pub rest_drop : (b : List ℕ) → take (length (rest b) - 20) (drop 20 (rest b)) ≡ drop 24 b
+rest_drop b = take_rest (rest b) 20 ∙ ap (drop 20) (take_rest b 4) ∙ drop-drop 20 4 b

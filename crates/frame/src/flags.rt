@@ -34,11 +34,7 @@ pub(crate) fn flags_right(flags: u8) -> bool
 pub(crate) fn interval_right(flags: u8, interval: u32) -> bool
     ensures { result ≡ interval_right flags interval }
 {
-    if bit(flags, INTERVAL_PRESENT) {
-        interval != 0
-    } else {
-        interval == 0
-    }
+    bit(flags, INTERVAL_PRESENT) == (interval != 0)
 }
 
 // The standing that right flags tell.
@@ -58,16 +54,13 @@ pub(crate) fn standing_of(flags: u8) -> Standing
 pub(crate) fn elapsed_of(flags: u8, time: u32, interval: u32) -> Elapsed
     ensures { result ≡ elapsed_at flags time interval }
 {
-    match (bit(flags, SWITCH_FORM), bit(flags, INTERVAL_PRESENT)) {
-        (false, _) => Elapsed::Plain(time),
-        (true, false) => Elapsed::Switched {
+    if bit(flags, SWITCH_FORM) {
+        Elapsed::Switched {
             time,
-            interval: None,
-        },
-        (true, true) => Elapsed::Switched {
-            time,
-            interval: Some(interval),
-        },
+            interval: bit(flags, INTERVAL_PRESENT).then_some(interval),
+        }
+    } else {
+        Elapsed::Plain(time)
     }
 }
 

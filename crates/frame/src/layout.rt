@@ -8,6 +8,3 @@ pub(crate) const REPORT_KIND: u16 = 1;
 
 // So many bytes are a frame.
 pub const FRAME: usize = LENGTH as usize;
-
-// So many of them are the fields that follow the length and the kind.
-pub(crate) const FIELDS: usize = FRAME - 4;

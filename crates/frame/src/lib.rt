@@ -1,7 +1,6 @@
 // Report frames: a report as 24 bytes, each number with its least byte first.
 #![tactic(auto)]
 
-mod bytes;
 mod flags;
 mod layout;
 mod reader;

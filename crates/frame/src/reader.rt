@@ -4,10 +4,9 @@ ghost use Rattle.report.specs.declared.refusal.Cause.TheVariants.{Cut};
 ghost use Rattle.report.specs.declared.refusal.Refusal.TheVariants.{WrongFrame};
 ghost use Rattle.frame.specs.Frame.{FrameRead, FrameRefused};
 
-use crate::bytes::{u16_at, u32_at};
 use crate::flags::{elapsed_of, flags_right, interval_right, standing_of};
-use crate::layout::{FIELDS, LENGTH, REPORT_KIND};
-use report::limits::{ADDRESS_NUMBERS, LAST_TICK, REPORT_NUMBERS};
+use crate::layout::{LENGTH, REPORT_KIND};
+use report::limits::{ADDRESS_KINDS, ADDRESS_NUMBERS, LAST_TICK, PARTIES, REPORT_NUMBERS};
 use report::{Address, Cause, Fault, Refusal, Report};
 
 // The refusal of bytes that break a rule of the frame first, at a place.
@@ -31,7 +30,30 @@ pub fn read(bytes: &[u8]) -> Result<(Report, &[u8]), Refusal>
     let [length_low, length_high, kind_low, kind_high, rest @ ..] = bytes else {
         return Err(cut(bytes));
     };
-    let Some((fields, after)) = rest.split_at_checked(FIELDS) else {
+    let [
+        kind,
+        address,
+        n0,
+        n1,
+        flags,
+        party,
+        z0,
+        z1,
+        t0,
+        t1,
+        t2,
+        t3,
+        u0,
+        u1,
+        u2,
+        u3,
+        i0,
+        i1,
+        i2,
+        i3,
+        after @ ..,
+    ] = rest
+    else {
         return Err(cut(bytes));
     };
     let LENGTH = u16::from_le_bytes([*length_low, *length_high]) else {
@@ -40,31 +62,30 @@ pub fn read(bytes: &[u8]) -> Result<(Report, &[u8]), Refusal>
     let REPORT_KIND = u16::from_le_bytes([*kind_low, *kind_high]) else {
         return Err(wrong(Cause::FrameKind, 2));
     };
-    let kind @ 1..=2 = fields[0] else {
+    let kind @ 1..=ADDRESS_KINDS = *kind else {
         return Err(wrong(Cause::AddressKind, 4));
     };
-    let address @ 1..=ADDRESS_NUMBERS = fields[1] else {
+    let address @ 1..=ADDRESS_NUMBERS = *address else {
         return Err(wrong(Cause::AddressNumber, 5));
     };
-    let number @ 1..=REPORT_NUMBERS = u16_at(fields, 2) else {
+    let number @ 1..=REPORT_NUMBERS = u16::from_le_bytes([*n0, *n1]) else {
         return Err(wrong(Cause::ReportNumber, 6));
     };
-    let flags = fields[4];
-    let true = flags_right(flags) else {
+    let true = flags_right(*flags) else {
         return Err(wrong(Cause::Flags, 8));
     };
-    let party @ 1..=2 = fields[5] else {
+    let party @ 1..=PARTIES = *party else {
         return Err(wrong(Cause::Party, 9));
     };
-    let 0 = u16_at(fields, 6) else {
+    let 0 = u16::from_le_bytes([*z0, *z1]) else {
         return Err(wrong(Cause::Zero, 10));
     };
-    let tick @ 0..=LAST_TICK = u32_at(fields, 8) else {
+    let tick @ 0..=LAST_TICK = u32::from_le_bytes([*t0, *t1, *t2, *t3]) else {
         return Err(wrong(Cause::Tick, 12));
     };
-    let time = u32_at(fields, 12);
-    let interval = u32_at(fields, 16);
-    let true = interval_right(flags, interval) else {
+    let time = u32::from_le_bytes([*u0, *u1, *u2, *u3]);
+    let interval = u32::from_le_bytes([*i0, *i1, *i2, *i3]);
+    let true = interval_right(*flags, interval) else {
         return Err(wrong(Cause::Interval, 20));
     };
     let true = (time <= tick && interval <= tick - time) else {
@@ -78,8 +99,8 @@ pub fn read(bytes: &[u8]) -> Result<(Report, &[u8]), Refusal>
         number,
         party,
         tick,
-        standing: standing_of(flags),
-        elapsed: elapsed_of(flags, time, interval),
+        standing: standing_of(*flags),
+        elapsed: elapsed_of(*flags, time, interval),
     };
     Ok((report, after))
 }
