@@ -8,7 +8,7 @@ use Rattle.report.specs.declared.report.Report.{Report}
 use Rattle.ring.specs.Slots.{count_of, after, slot, list, Enters, Leaves}
 use Rattle.ring.specs.declared.window.Turn.{Turn}
 use Rattle.ring.specs.declared.window.Window.{Window}
-use Rattle.ring.proofs.Turns.{length_list, count_within, appends, heads}
+use Rattle.ring.proofs.Turns.{length_list, appends, heads}
 use Rattle.link.specs.Links.{Sends, MakesUp}
 use Rattle.frame_ring.specs.Places.{places_in, place_at, places, Filled}
 use Rattle.frame_ring.specs.Frames.{waiting, bytes_view, Appended, NotAppended, NotSent, First}
@@ -21,8 +21,8 @@ pub length_waiting : (b : List ℕ) (w : Window) → length (waiting b w) ≡ co
 length_waiting b w = length_list (places b) w ∙ ap (λ n. count_of n w) (length_places b)
 
 -- free places and waiting reports make up the capacity
-pub makes_up : (b : List ℕ) (w : Window) → MakesUp (bytes_view b w)
-makes_up b w = omega (arith, length_waiting b w, count_within (places_in b) w)
+makes_up : (b : List ℕ) (w : Window) → MakesUp (bytes_view b w)
+makes_up b w = omega (arith, length_waiting b w)
 
 -- a frame that was written into the place that the window gives next waits behind the others
 pub is_appended : (b b' : List ℕ) (w : Window) (r : Report) (t : Turn) (size : ℕ) → size ≡ places_in b → Enters size w t → Filled b t.place r b' → Appended b w r b' t.window

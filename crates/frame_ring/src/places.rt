@@ -2,13 +2,12 @@
 ghost use Rattle.std.specs.Prelude.{◌≡◌, ◌/◌, ◌<◌, [], length, if◌then◌else◌, MatchOption, MatchResult};
 ghost use Rattle.report.specs.Lawful.{lawful};
 ghost use Rattle.report.specs.declared.refusal.Refusal.TheVariants.{OutOfRange, NoFreePlace};
-ghost use Rattle.frame.specs.Frame.{frame_size, blank};
-ghost use Rattle.link.specs.Links.{MakesUp};
+ghost use Rattle.frame.specs.Frame.{frame_size};
 ghost use Rattle.frame_ring.specs.Places.{places_in, place_at, Filled, NotFilled};
-ghost use Rattle.frame_ring.specs.Frames.{waiting, bytes_view, Appended, NotAppended, First};
+ghost use Rattle.frame_ring.specs.Frames.{waiting, Appended, NotAppended, First};
 
 use frame::{FRAME, read, write};
-use report::{Address, Elapsed, Refusal, Report, Standing};
+use report::{Refusal, Report};
 use ring::Window;
 
 // How many whole places so many bytes make.
@@ -18,30 +17,13 @@ pub(crate) fn whole_places(size: usize) -> usize
     size / FRAME
 }
 
-// The report that a place means where no frame stands in it.
-fn no_report() -> Report
-    ensures { result ≡ blank }
-{
-    Report {
-        address: Address { kind: 0, number: 0 },
-        number: 0,
-        party: 0,
-        tick: 0,
-        standing: Standing::Ended,
-        elapsed: Elapsed::Plain(0),
-    }
-}
-
-// The report in a place.
+// The report in a place: a blank one where no frame stands in it.
 fn read_place(bytes: &[u8], i: usize) -> Report
     requires { i < places_in bytes.now }
     ensures { result ≡ place_at bytes.now i }
 {
     let at = FRAME * i;
-    match read(&bytes[at..at + FRAME]) {
-        Ok((report, _)) => report,
-        Err(_) => no_report(),
-    }
+    read(&bytes[at..at + FRAME]).map_or(Report::BLANK, |(report, _)| report)
 }
 
 // Writes a report's frame into a place. A report that no frame can hold is refused, and the bytes stay.
@@ -66,8 +48,7 @@ fn unplaced(report: Report) -> Refusal
 
 // How many reports wait.
 pub(crate) fn count_frames(bytes: &[u8], window: Window) -> usize
-    ensures is { result ≡ length (waiting bytes.now window) }
-    ensures sum { MakesUp (bytes_view bytes.now window) }
+    ensures { result ≡ length (waiting bytes.now window) }
 {
     window.filled(whole_places(bytes.len()))
 }
@@ -80,9 +61,9 @@ pub(crate) fn append_frame(
 ) -> Result<Window, Refusal>
     ensures { MatchResult result (Appended bytes.old window report bytes.new) (λ e. NotAppended bytes.old window report e bytes.new) }
 {
-    let Some(turn) = window.behind(whole_places(bytes.len())) else {
-        return Err(unplaced(report));
-    };
+    let turn = window
+        .behind(whole_places(bytes.len()))
+        .ok_or_else(|| unplaced(report))?;
     write_place(bytes, turn.place, report)?;
     Ok(turn.window)
 }

@@ -2,8 +2,7 @@
 ghost use Rattle.std.specs.Prelude.{◌≡◌, [], length, MatchOption, MatchResult, nat_lt};
 ghost use Rattle.link.specs.Links.{Sends, Takes, MakesUp};
 ghost use Rattle.frame_ring.specs.Places.{places_in, Filled};
-ghost use Rattle.frame_ring.specs.Frames.{First, NotSent};
-ghost use Rattle.frame_ring.specs.Ring.{memory, frame_view, frame_whole, next_slot, Sent, Taken};
+ghost use Rattle.frame_ring.specs.Frames.{bytes_view, First, NotSent};
 
 use crate::places::{append_frame, count_frames, first_frame, whole_places};
 use link::Link;
@@ -11,19 +10,22 @@ use report::{Refusal, Report};
 use ring::Window;
 
 // Reports wait as frames, one to each whole place of the lent bytes; what is left past the last whole place is never written.
-// Each value of the two fields is a ring.
+// No model: clauses also pin the lent bytes, who lent them and the next place.
 #[derive(Drop)]
 pub struct FrameRing<'a> {
     bytes: &'a mut [u8],
     window: Window,
+    // free places and waiting reports make up the capacity
+    pub ghost sum: { MakesUp (bytes_view bytes.now window) },
 }
 
 impl<'a> FrameRing<'a> {
+    ghost use Rattle.frame_ring.specs.Ring.{memory, frame_view, next_slot};
+
     // An empty ring in the lent bytes, which stay as they are.
     pub fn new(bytes: &'a mut [u8]) -> FrameRing<'a>
         ensures list { (frame_view result).waiting ≡ [] }
         ensures size { (frame_view result).capacity ≡ places_in bytes.old }
-        ensures sum { MakesUp (frame_view result) }
         ensures lent { memory result ≡ bytes.old }
         ensures lender { result.bytes.ghost_name ≡ bytes.entry.ghost_name }
         ensures next { next_slot result ≡ 0 }
@@ -36,16 +38,14 @@ impl<'a> FrameRing<'a> {
 
     // How many reports wait.
     pub fn len(&self) -> usize
-        ensures is { result ≡ length (frame_view self.now).waiting }
-        ensures sum { MakesUp (frame_view self.now) }
+        ensures { result ≡ length (frame_view self.now).waiting }
     {
         count_frames(self.bytes, self.window)
     }
 
-    // How many more can wait: free places and waiting reports make up the capacity.
+    // How many more can wait.
     pub fn room(&self) -> usize
-        ensures is { result ≡ (frame_view self.now).free }
-        ensures sum { MakesUp (frame_view self.now) }
+        ensures { result ≡ (frame_view self.now).free }
     {
         whole_places(self.bytes.len()) - self.len()
     }
@@ -59,9 +59,11 @@ impl<'a> FrameRing<'a> {
     }
 }
 
-// Its capacity is the whole places in the bytes handed. Free places and waiting reports always make it up.
+// Its capacity is the whole places in the bytes handed.
 // A refused call leaves its whole value as it was, the lent bytes included.
 impl<'a> Link for FrameRing<'a> {
+    ghost use Rattle.frame_ring.specs.Ring.{frame_view, frame_whole, Sent, Taken};
+
     ghost view = { frame_view };
 
     ghost whole = { frame_whole };
@@ -69,39 +71,27 @@ impl<'a> Link for FrameRing<'a> {
     fn send(&mut self, r: Report) -> Result<(), Refusal>
         ensures sends { Sends (frame_view self.old) r result (frame_view self.new) }
         ensures wrote { MatchResult result (λ _. Sent self.old r self.new) (λ _. self.new ≡ self.old) }
-        ensures sum { MakesUp (frame_view self.new) }
         ensures lender { self.new.bytes.ghost_name ≡ self.old.bytes.ghost_name }
     {
-        let window = self.window;
-        let next = append_frame(self.bytes, window, r)?;
-        self.window = next;
+        self.window = append_frame(self.bytes, self.window, r)?;
         Ok(())
     }
 
     fn take(&mut self) -> Result<Report, Refusal>
         ensures takes { Takes (frame_view self.old) result (frame_view self.new) }
         ensures moved { MatchResult result (λ _. Taken self.old self.new) (λ _. self.new ≡ self.old) }
-        ensures sum { MakesUp (frame_view self.new) }
         ensures lender { self.new.bytes.ghost_name ≡ self.old.bytes.ghost_name }
     {
-        let Some((r, rest)) = self.oldest() else {
-            return Err(Refusal::NothingWaits);
-        };
+        let (r, rest) = self.oldest().ok_or(Refusal::NothingWaits)?;
         self.window = rest;
         Ok(r)
     }
 
-    fn has_room(&self) -> bool
-        ensures is { result ≡ nat_lt 0 (frame_view self.now).free }
-        ensures sum { MakesUp (frame_view self.now) }
-    {
+    fn has_room(&self) -> bool {
         self.room() > 0
     }
 
-    fn has_waiting(&self) -> bool
-        ensures is { result ≡ nat_lt 0 (length (frame_view self.now).waiting) }
-        ensures sum { MakesUp (frame_view self.now) }
-    {
+    fn has_waiting(&self) -> bool {
         self.len() > 0
     }
 }

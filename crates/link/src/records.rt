@@ -10,14 +10,15 @@ use report::{Refusal, Report};
 use ring::{Fifo, Window, append};
 
 // Writes a report into the place behind those that wait, and leaves every other place as it is;
-// writes nothing where every place is taken.
+// writes nothing where every place is taken. A function over the lent reports, as a rule of the project has it.
 pub fn append_record(places: &mut [Report], window: Window, r: Report) -> Option<Window>
     ensures { MatchOption result (Refused places.old window places.new) (Appends places.old window r places.new) }
 {
     append(places, window, r)
 }
 
-// Its capacity is the records handed. Free places and waiting reports always make it up.
+// Its capacity is the records handed. Free places and waiting reports always make it up, as clauses say: a `Fifo` has no ghost
+// field that could.
 // A refused call leaves its whole value as it was, the lent memory included.
 impl<'a> Link for Fifo<'a, Report> {
     ghost view = { record_view };
@@ -32,14 +33,8 @@ impl<'a> Link for Fifo<'a, Report> {
         if !r.is_lawful() {
             return Err(Refusal::OutOfRange);
         }
-        let window = self.window;
-        match append_record(self.places, window, r) {
-            Some(next) => {
-                self.window = next;
-                Ok(())
-            }
-            None => Err(Refusal::NoFreePlace),
-        }
+        self.window = append_record(self.places, self.window, r).ok_or(Refusal::NoFreePlace)?;
+        Ok(())
     }
 
     fn take(&mut self) -> Result<Report, Refusal>
@@ -47,10 +42,7 @@ impl<'a> Link for Fifo<'a, Report> {
         ensures moved { MatchResult result (λ r. Popped self.old r self.new) (λ _. self.new ≡ self.old) }
         ensures lender { self.new.places.ghost_name ≡ self.old.places.ghost_name }
     {
-        match self.pop() {
-            Some(r) => Ok(r),
-            None => Err(Refusal::NothingWaits),
-        }
+        self.pop().ok_or(Refusal::NothingWaits)
     }
 
     fn has_room(&self) -> bool

@@ -10,15 +10,14 @@ use Rattle.report.specs.Lawful.{lawful}
 use Rattle.link.specs.Links.{View}
 use Rattle.link.specs.Records.{record_whole}
 use Rattle.frame_ring.specs.Ring.{frame_whole}
-use Rattle.reserve.specs.declared.layer.Reserve.{Reserve}
-use Rattle.reserve.specs.Lies.{reserve_places, kept, stacked, layer_view, layer_whole, AllLawful}
+use Rattle.reserve.specs.Lies.{reserve_places, layer_whole, AllLawful}
 use Rattle.piles.specs.Batches.{SentFirst, RefusedNext, Stops, TookFirst, empty, Fills, Empties}
 use Rattle.piles.specs.Piles.{Kind, Pile, pile_view, pile_places, Learns, EachPileStands}
 use Rattle.piles.specs.Piles.Kind.{records, frames, above}
 use Rattle.piles.proofs.Kept.{keeps_all}
 
 -- a view with nothing waiting and all of so many places free
-pub is_empty : (v : View) (n : ℕ) → v.waiting ≡ [] → v.free ≡ v.capacity → v.capacity ≡ n → v ≡ empty n
+is_empty : (v : View) (n : ℕ) → v.waiting ≡ [] → v.free ≡ v.capacity → v.capacity ≡ n → v ≡ empty n
 is_empty v n none whole size = λ i. record { waiting = none i; free = (whole ∙ size) i; capacity = size i }
 
 -- a lawful report is refused only where no place is free
@@ -85,13 +84,3 @@ pile_size (above k) s = ap (λ n. n + reserve_places) (pile_size k s.below)
 -- what generic code learns holds of every pile
 pub every_pile : EachPileStands
 every_pile k = record { learns = learned (pile_view k) (pile_whole k); capacity = pile_size k }
-
--- a reserve that holds nothing, above an empty link
-pub fresh_above : {S : Type 0} (view : S → View) (n : ℕ) (b : S) (s : Reserve S) → view b ≡ empty n → s.below ≡ b → kept s.held ≡ [] → layer_view view s ≡ empty (n + reserve_places)
-fresh_above view n b s is below held = let e = ap view below ∙ is in λ i. stacked (record { below = e i; held = held i })
-
--- what sending comes to at a link that is known to be empty
-pub sent_from_empty : (v w : View) (places : ℕ) (rs : List Report) (n : ℕ) (why : Option Refusal) → v ≡ empty places → SentFirst v rs n w → Stops why w rs n → SentFirst (empty places) rs n w × (AllLawful rs → Fills places rs n why w)
-sent_from_empty v w places rs n why is given stops =
-    let so = subst (λ x. SentFirst x rs n w) is given in
-    (so, λ all. filled (empty places) w rs n why refl refl all so stops)

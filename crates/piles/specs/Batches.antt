@@ -1,10 +1,21 @@
 -- What sending a row of reports to a link comes to, and taking a row from it. Assumes nothing.
-use Rattle.std.specs.Prelude.{◌≡◌, ℕ, ◌-◌, ◌≤◌, min, cond, List, [], ◌∷◌, ◌++◌, length, take, drop, Some, None, Err, Option, nat_lt}
+use Rattle.std.specs.Prelude.{◌≡◌, ℕ, ◌-◌, ◌≤◌, min, cond, List, [], ◌∷◌, ◌++◌, length, take, drop, Some, None, Ok, Err, Option, Result, nat_lt}
 use Rattle.report.specs.declared.refusal.Refusal.{Refusal}
 use Rattle.report.specs.declared.refusal.Refusal.TheVariants.{NoFreePlace}
 use Rattle.report.specs.declared.report.Report.{Report}
 use Rattle.link.specs.Links.{View, Sends}
 use Rattle.reserve.specs.Lies.{AllLawful}
+use Rattle.piles.specs.declared.batches.Unsent.{Unsent}
+
+-- how many of rs were sent: all of them, or those before the one that was refused
+abbrev pub count_sent : List Report → Result (Unit {0}) Unsent → ℕ
+count_sent rs (Ok _) = length rs
+count_sent rs (Err u) = u.count
+
+-- what the next one was refused with, if one was
+abbrev pub refusal_of : Result (Unit {0}) Unsent → Option Refusal
+refusal_of (Ok _) = None
+refusal_of (Err u) = Some u.refusal
 
 -- the view with the first n of rs more, each in a place that was free
 abbrev pub with_first : View → List Report → ℕ → View

@@ -2,41 +2,30 @@
 ghost use Rattle.std.specs.Prelude.{◌≡◌, ◌≤◌, min, [], length, take};
 ghost use Rattle.reserve.specs.Lies.{AllLawful};
 ghost use Rattle.piles.specs.Calls.{Calls};
-ghost use Rattle.piles.specs.Batches.{SentFirst, Stops, TookFirst, Fills, Empties};
+ghost use Rattle.piles.specs.Batches.{count_sent, refusal_of, SentFirst, Stops, TookFirst, Fills, Empties};
 
 use link::Link;
 use report::{Refusal, Report};
 
-// How many reports of a row were sent, and why no more were: nothing where all of them were.
+// After so many reports of a row the next one was refused.
 #[derive(Clone, Copy, PartialEq, Eq, Debug)]
-pub struct Sending {
+pub struct Unsent {
     pub count: usize,
-    pub refusal: Option<Refusal>,
+    pub refusal: Refusal,
 }
 
 // Sends reports in their order until one is refused. So an empty link is filled by lawful reports to its last place.
-pub fn send_all<L: Link>(link: &mut L, reports: &[Report]) -> Sending
-    ensures sent { SentFirst (L.Link.view link.old) reports.now result.count (L.Link.view link.new) }
-    ensures stops { Stops result.refusal (L.Link.view link.new) reports.now result.count }
-    ensures calls { Calls (L.Link.view link.old) (take result.count reports.now) [] (L.Link.view link.new) }
-    ensures fills { (L.Link.view link.old).waiting ≡ [] → AllLawful reports.now → Fills (L.Link.view link.old).capacity reports.now result.count result.refusal (L.Link.view link.new) }
+pub fn send_all<L: Link>(link: &mut L, reports: &[Report]) -> Result<(), Unsent>
+    ensures sent { SentFirst (L.Link.view link.old) reports.now (count_sent reports.now result) (L.Link.view link.new) }
+    ensures stops { Stops (refusal_of result) (L.Link.view link.new) reports.now (count_sent reports.now result) }
+    ensures calls { Calls (L.Link.view link.old) (take (count_sent reports.now result) reports.now) [] (L.Link.view link.new) }
+    ensures fills { (L.Link.view link.old).waiting ≡ [] → AllLawful reports.now → Fills (L.Link.view link.old).capacity reports.now (count_sent reports.now result) (refusal_of result) (L.Link.view link.new) }
 {
-    let mut count = 0;
-    for r in reports {
-        match link.send(*r) {
-            Ok(()) => count += 1,
-            Err(refusal) => {
-                return Sending {
-                    count,
-                    refusal: Some(refusal),
-                };
-            }
-        }
+    for (count, report) in reports.iter().enumerate() {
+        link.send(*report)
+            .map_err(|refusal| Unsent { count, refusal })?;
     }
-    Sending {
-        count,
-        refusal: None,
-    }
+    Ok(())
 }
 
 // Takes reports, oldest first, into a lent place, until it is full or nothing waits: says how many.
@@ -47,16 +36,12 @@ pub fn take_all<L: Link>(link: &mut L, place: &mut [Report]) -> usize
     ensures calls { Calls (L.Link.view link.old) [] (take result place.new) (L.Link.view link.new) }
     ensures empties { length (L.Link.view link.old).waiting ≤ length place.old → Empties (L.Link.view link.old) result place.new (L.Link.view link.new) }
 {
-    let mut taken = 0;
-    for slot in place.iter_mut() {
-        match link.take() {
-            Ok(r) => {
-                *slot = r;
-                taken += 1;
-            }
+    for (taken, slot) in place.iter_mut().enumerate() {
+        let Ok(report) = link.take() else {
             // a take is refused only where nothing waits
-            Err(_) => return taken,
-        }
+            return taken;
+        };
+        *slot = report;
     }
-    taken
+    place.len()
 }

@@ -5,5 +5,5 @@
 mod batches;
 mod filled;
 
-pub use batches::{Sending, send_all, take_all};
+pub use batches::{Unsent, send_all, take_all};
 pub use filled::{fill_frames, fill_records};

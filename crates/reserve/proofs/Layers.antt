@@ -1,32 +1,20 @@
 -- How the reports of a reserve come, go and move down. Assumes nothing.
-use Rattle.std.proofs.Common.{◌≡◌, ℕ, zero, suc, ◌+◌, ◌-◌, ◌<◌, ◌≤◌, true, false, cond, eqb, ltb, List, [], ◌∷◌, ◌++◌, length, get_or, take, drop, Ok, Err, Result, sym, refl, ap, ◌∙◌, subst, ⊎_elim, append_assoc, append-nil, arith, length-drop, take-append-drop, MatchResult}
+use Rattle.std.proofs.Common.{◌≡◌, ℕ, zero, suc, ◌+◌, ◌-◌, ◌<◌, ◌≤◌, true, false, eqb, ltb, List, [], ◌∷◌, ◌++◌, length, get_or, take, drop, Ok, sym, refl, ap, ◌∙◌, subst, ⊎_elim, append_assoc, arith, length-drop, take-append-drop}
 use Rattle.std.proofs.ByRecursion.{All-push, All-drop}
 use Rattle.std.proofs.lemmas.List.{drop_more, take_more, nil_from_length, length_push}
-use Rattle.std.proofs.lemmas.Bool.{and_parts, and_cases, ltb-true, ltb-false, eqb-true, eqb-false, cond-true, cond-false, cases_eq, lt-ltb, le-ltb}
-use Rattle.report.specs.declared.refusal.Refusal.{Refusal}
-use Rattle.report.specs.declared.refusal.Refusal.TheVariants.{OutOfRange, NoFreePlace}
+use Rattle.std.proofs.lemmas.Bool.{and_cases, ltb-false, eqb-false, cond-false, cases_eq, lt-ltb, le-ltb}
 use Rattle.report.specs.declared.report.Report.{Report}
 use Rattle.report.specs.Lawful.{lawful}
-use Rattle.link.specs.Links.{with_one_more, Sends, Takes}
+use Rattle.link.specs.Links.{with_one_more, Takes}
 use Rattle.reserve.specs.Lies.{reserve_places, Lies, places_left, stacked, goes_down, moved, moving, AllLawful, Moves, Rests, Settles, Drawn, Draws, Sound, Placed, TakenOut}
 
 abbrev MayBeSent : Report → Type 0
 MayBeSent r = lawful r ≡ true
 
--- a report goes down where nothing is held and a place is free below
-when_down : (s : Lies) → goes_down s ≡ true → (s.held ≡ []) × (0 < s.below.free)
-when_down s e =
-    let p = and_parts (eqb (length s.held) 0) (ltb 0 s.below.free) e in
-    (nil_from_length s.held (eqb-true (length s.held) 0 p.0), ltb-true 0 s.below.free p.1)
-
 when_held : (s : Lies) → goes_down s ≡ false → length s.held ≡ 0 → s.below.free ≡ 0
 when_held s e none =
     ⊎_elim (λ p. absurd (eqb-false (length s.held) 0 p none)) (λ p. omega (arith, ltb-false 0 s.below.free p))
     (and_cases (eqb (length s.held) 0) (ltb 0 s.below.free) e)
-
-less_below : (h : List Report) (f : ℕ) → h ≡ [] → 0 < f → places_left (length h) (f - 1) ≡ places_left (length h) f - 1
-less_below [] f e lt = omega arith
-less_below (x ∷ h) f e lt = absurd (omega (arith, ap length e))
 
 some_left : (n f : ℕ) → n < reserve_places → 0 < places_left n f
 some_left zero f lt = omega arith
@@ -37,31 +25,6 @@ less_held zero zero f lt e none = absurd (omega arith)
 less_held zero (suc m) f lt e none = omega (arith, none refl)
 less_held (suc n) zero f lt e none = absurd (omega arith)
 less_held (suc n) (suc m) f lt e none = omega arith
-
-placed_below : (s t : Lies) (r : Report) → lawful r ≡ true → goes_down s ≡ true → t.below ≡ with_one_more s.below r → t.held ≡ s.held → Placed s r t
-placed_below s t r law down is same =
-    let p = when_down s down in
-    let h = s.held in
-    let w = s.below.waiting in
-    let after : Lies = record { below = with_one_more s.below r; held = h } in
-    let to : t ≡ after = (λ i. record { below = is i; held = same i }) in
-    let none = p.0 in
-    let bare : (l : List Report) → l ++ h ≡ l = λ l. ap (λ k. l ++ k) none ∙ append-nil l in
-    let list : (w ++ r ∷ []) ++ h ≡ (w ++ h) ++ r ∷ [] = bare (w ++ r ∷ []) ∙ ap (λ l. l ++ r ∷ []) (sym (bare w)) in
-    let fewer = less_below h s.below.free none p.1 in
-    let view : stacked after ≡ with_one_more (stacked s) r = (λ i. record { waiting = list i; free = fewer i; capacity = s.below.capacity + reserve_places }) in
-    record {
-      sends = (law, some_left (length h) s.below.free (omega (arith, ap length none)), ap stacked to ∙ view);
-      lies = to ∙ sym (cond-true (goes_down s) after (record { below = s.below; held = h ++ r ∷ [] }) down);
-      sound = λ k. record { lawful = subst AllLawful (sym same) k.lawful; settled = λ some. absurd (omega (arith, ap length same, ap length none)) };
-    }
-
--- the link below takes what goes down
-pub sent_down : (s t : Lies) (r : Report) (a : Result (Unit {0}) Refusal) → lawful r ≡ true → goes_down s ≡ true → Sends s.below r a t.below → t.held ≡ s.held → MatchResult a (λ _. Placed s r t) (λ _. ⊥)
-sent_down s t r (Ok _) law down is same = placed_below s t r law down is.2 same
-sent_down s t r (Err e) law down is same =
-    let why = subst (λ b. cond b ((s.below.free ≡ 0) × (e ≡ NoFreePlace)) (e ≡ OutOfRange)) law is.0 in
-    omega (arith, (when_down s down).1, why.0)
 
 pub placed_held : (s t : Lies) (r : Report) → lawful r ≡ true → goes_down s ≡ false → length s.held < reserve_places → t.below ≡ s.below → t.held ≡ s.held ++ r ∷ [] → Placed s r t
 placed_held s t r law here room same more =
@@ -86,11 +49,6 @@ next_of h k n r e =
     let both = drop_more h n r lt in
     let is : get_or h n r ≡ r = cc in
     (lt, take_more h n r lt ∙ ap (λ x. take n h ++ x ∷ []) is, cc)
-
-pub moved_none : (s : Lies) → s ≡ moved 0 s
-moved_none s =
-    let free : s.below.free ≡ s.below.free - 0 = omega arith in
-    (λ i. record { below = record { waiting = sym (append-nil s.below.waiting) i; free = free i; capacity = s.below.capacity }; held = s.held })
 
 -- one more goes down
 pub moved_more : (s t u : Lies) (n : ℕ) → t ≡ moved n s → Moves t u → (n < length s.held) × (n < s.below.free) × (u ≡ moved (n + 1) s)
@@ -184,6 +142,3 @@ taken_held s m t r rest empty same first left e =
       ap (λ v. v.capacity + reserve_places) same,
     )
     (λ law. (subst AllLawful out law).1) e
-
-pub nothing_waits : (w h : List Report) → length w ≡ 0 → h ≡ [] → w ++ h ≡ []
-nothing_waits w h empty none = ap (λ l. l ++ h) (nil_from_length w empty) ∙ none

@@ -1,37 +1,20 @@
 // The places of a reserve.
-ghost use Rattle.std.specs.Prelude.{◌≡◌, ◌<◌, ◌≤◌, [], ◌∷◌, ◌++◌, length, MatchBool, MatchOption};
+ghost use Rattle.std.specs.Prelude.{◌≡◌, ◌<◌, ◌≤◌, [], ◌∷◌, ◌++◌, length, MatchBool, MatchOption, MatchResult};
 ghost use Rattle.ring.specs.Slots.{list};
 ghost use Rattle.reserve.specs.Lies.{reserve_places, kept, Kept, NotKept};
 
 use link::append_record;
-use report::{Address, Elapsed, Report, Standing};
-use ring::{Window, first};
+use report::Report;
+use ring::{Full, Window, first};
 
 // So many places a reserve has of its own.
 pub const RESERVE_PLACES: usize = 8;
 
-// What stands in a place that nothing was written to.
-const BLANK: Report = Report {
-    address: Address { kind: 0, number: 0 },
-    number: 0,
-    party: 0,
-    tick: 0,
-    standing: Standing::Ended,
-    elapsed: Elapsed::Plain(0),
-};
-
-// The held reports, oldest first.
+// The held reports, oldest first. No model: a refused call leaves every place as it was, and a list would say less.
 #[derive(Clone, Copy)]
 pub struct Held {
     places: [Report; RESERVE_PLACES],
     window: Window,
-}
-
-// How many places there are: an array behind a reference tells its length only where it is lent.
-fn size(places: &[Report; RESERVE_PLACES]) -> usize
-    ensures { (result ≡ reserve_places) × (length places.now ≡ reserve_places) }
-{
-    RESERVE_PLACES
 }
 
 impl Held {
@@ -40,7 +23,7 @@ impl Held {
         ensures { kept result ≡ [] }
     {
         Held {
-            places: [BLANK; RESERVE_PLACES],
+            places: [Report::BLANK; RESERVE_PLACES],
             window: Window { head: 0, count: 0 },
         }
     }
@@ -50,7 +33,7 @@ impl Held {
         ensures is { result ≡ length (kept self.now) }
         ensures few { result ≤ reserve_places }
     {
-        self.window.filled(size(&self.places))
+        self.window.filled(self.places.len())
     }
 
     // Whether nothing is held.
@@ -60,19 +43,12 @@ impl Held {
         self.len() == 0
     }
 
-    // Holds one more, or changes nothing where every place is taken; says which.
-    pub(crate) fn push(&mut self, r: Report) -> bool
-        ensures { MatchBool result (Kept self.old r self.new) (NotKept self.old self.new) }
+    // Holds one more, or changes nothing where every place is taken.
+    pub(crate) fn push(&mut self, r: Report) -> Result<(), Full>
+        ensures { MatchResult result (λ _. Kept self.old r self.new) (λ _. NotKept self.old self.new) }
     {
-        let window = self.window;
-        let _size = size(&self.places);
-        match append_record(&mut self.places, window, r) {
-            Some(next) => {
-                self.window = next;
-                true
-            }
-            None => false,
-        }
+        self.window = append_record(&mut self.places, self.window, r).ok_or(Full)?;
+        Ok(())
     }
 
     // The oldest, and the window that holds the others.

@@ -1,5 +1,5 @@
 // A layer of eight places above any link, a reserve too.
-ghost use Rattle.std.specs.Prelude.{◌≡◌, ◌<◌, true, false, [], length, MatchBool, MatchResult};
+ghost use Rattle.std.specs.Prelude.{◌≡◌, ◌<◌, true, false, [], length, MatchOption, MatchResult};
 ghost use Rattle.report.specs.declared.refusal.Refusal.TheVariants.{NoFreePlace, NothingWaits};
 ghost use Rattle.report.specs.Lawful.{lawful};
 ghost use Rattle.link.specs.Links.{Sends, Takes};
@@ -70,38 +70,28 @@ impl<L: Link> Reserve<L> {
         requires here { goes_down (lies L.Link.view self.old) ≡ false }
         ensures { MatchResult result (λ _. Placed (lies L.Link.view self.old) r (lies L.Link.view self.new)) (λ e. (e ≡ NoFreePlace) × ((layer_view L.Link.view self.old).free ≡ 0) × (self.new ≡ self.old)) }
     {
-        if self.held.push(r) {
-            Ok(())
-        } else {
-            Err(Refusal::NoFreePlace)
-        }
+        self.held.push(r).map_err(|_| Refusal::NoFreePlace)
     }
 
-    // Moves the oldest held report down where a place is free; says whether it did.
-    fn move_down(&mut self) -> bool
-        ensures { MatchBool result (Moves (lies L.Link.view self.old) (lies L.Link.view self.new)) (Rests (lies L.Link.view self.old) (lies L.Link.view self.new)) }
+    // Moves the oldest held report down where a place is free; nothing where none moves.
+    fn move_down(&mut self) -> Option<()>
+        ensures { MatchOption result (Rests (lies L.Link.view self.old) (lies L.Link.view self.new)) (λ _. Moves (lies L.Link.view self.old) (lies L.Link.view self.new)) }
     {
         if !self.below.has_room() {
-            return false;
+            return None;
         }
-        let Some((r, rest)) = self.held.oldest() else {
-            return false;
-        };
-        match self.below.send(r) {
-            Ok(()) => {
-                self.held.keep(rest);
-                true
-            }
-            // what is held was lawful when it came, so that this link never refuses it
-            Err(_) => false,
-        }
+        let (r, rest) = self.held.oldest()?;
+        // what is held was lawful when it came, so that this link never refuses it
+        self.below.send(r).ok()?;
+        self.held.keep(rest);
+        Some(())
     }
 
     // Moves held reports down while places are free.
     fn settle(&mut self)
         ensures { Settles (lies L.Link.view self.old) (lies L.Link.view self.new) }
     {
-        while self.move_down() {}
+        while self.move_down().is_some() {}
     }
 
     // Takes the oldest of those below.
@@ -109,13 +99,9 @@ impl<L: Link> Reserve<L> {
         requires { 0 < length (L.Link.view self.old.below).waiting }
         ensures { MatchResult result (λ r. TakenOut (lies L.Link.view self.old) r (lies L.Link.view self.new)) (λ _. ⊥) }
     {
-        match self.below.take() {
-            Ok(r) => {
-                self.settle();
-                Ok(r)
-            }
-            Err(e) => Err(e),
-        }
+        let r = self.below.take()?;
+        self.settle();
+        Ok(r)
     }
 
     // Takes the oldest of the held ones, where nothing waits below.
@@ -123,14 +109,10 @@ impl<L: Link> Reserve<L> {
         requires { length (L.Link.view self.old.below).waiting ≡ 0 }
         ensures { MatchResult result (λ r. TakenOut (lies L.Link.view self.old) r (lies L.Link.view self.new)) (λ e. (e ≡ NothingWaits) × ((layer_view L.Link.view self.old).waiting ≡ []) × (self.new ≡ self.old)) }
     {
-        match self.held.oldest() {
-            Some((r, rest)) => {
-                self.held.keep(rest);
-                self.settle();
-                Ok(r)
-            }
-            None => Err(Refusal::NothingWaits),
-        }
+        let (r, rest) = self.held.oldest().ok_or(Refusal::NothingWaits)?;
+        self.held.keep(rest);
+        self.settle();
+        Ok(r)
     }
 }
 

@@ -1,8 +1,8 @@
 -- What a write behind a queue and a read at its front do to the list that the window means. Assumes nothing.
-use Rattle.std.proofs.Common.{◌≡◌, ℕ, suc, ◌+◌, ◌-◌, ◌<◌, ◌≤◌, ltb, List, [], ◌∷◌, ◌++◌, length, get_or, take, drop, set, sym, ap, ◌∙◌, append_assoc, append-nil, arith, length-append, length-drop, length-set, length-take, length-take-le, drop-set-lt}
-use lib.Seq.{take-append-le, set-append_left, drop-set-add, take-set-lt, take-set-le}
-use Rattle.std.proofs.lemmas.List.{length_push, take_more_set, drop_more, take_more, set-append_right, drop_all, take_all}
-use Rattle.std.proofs.lemmas.Bool.{cond_both, cond_below, ltb-true, ltb-false}
+use Rattle.std.proofs.Common.{◌≡◌, ℕ, suc, ◌+◌, ◌-◌, ◌<◌, ◌≤◌, ltb, List, [], ◌∷◌, ◌++◌, length, get_or, take, drop, set, sym, ap, ◌∙◌, append_assoc, append-nil, arith, length-append, length-drop, length-set, length-take, drop-set-lt}
+use Rattle.std.proofs.Math.Seq.{take-set-lt}
+use Rattle.std.proofs.lemmas.List.{length_push, take_more_set, drop_more, take_more, set-append_left, set-append_right, take-append-le, drop-set-add, take-set-le, drop_all, take_all}
+use Rattle.std.proofs.lemmas.Bool.{cond_both, ltb-true, ltb-false}
 use Rattle.std.proofs.lemmas.Bool.Decides.{nat_tests}
 use Rattle.ring.specs.Slots.{turned, queue, place_of, after, start_of, count_of, list, slot, grown, shrunk, Enters, Leaves, Appends, Heads}
 use Rattle.ring.specs.declared.window.Turn.{Turn}
@@ -10,19 +10,16 @@ use Rattle.ring.specs.declared.window.Window.{Window}
 
 -- a window that lies within the row means what it says
 start_kept : (size h n : ℕ) → h < size → start_of size (record { head = h; count = n }) ≡ h
-start_kept size h n lt = sym (cond_below h size h 0 lt)
+start_kept size h n lt = grind (arith, nat_tests)
 
 count_kept : (size h n : ℕ) → n ≤ size → count_of size (record { head = h; count = n }) ≡ n
 count_kept size h n le = omega arith
 
-pub start_within : (size : ℕ) (w : Window) → 0 < size → start_of size w < size
-start_within size w some = cond_both (ltb w.head size) w.head 0 (λ i. i < size) (λ e. ltb-true w.head size e) (λ e. some)
-
-pub count_within : (size : ℕ) (w : Window) → count_of size w ≤ size
-count_within size w = omega arith
+start_within : (size : ℕ) (w : Window) → 0 < size → start_of size w < size
+start_within size w some = grind (arith, nat_tests)
 
 after_within : (size h : ℕ) → h < size → after size h < size
-after_within size h lt = cond_both (ltb (h + 1) size) (h + 1) 0 (λ i. i < size) (λ e. ltb-true (h + 1) size e) (λ e. omega arith)
+after_within size h lt = grind (arith, nat_tests)
 
 -- the place one further is the place after
 further_on : (size h n : ℕ) → h < size → n < size → place_of size h (n + 1) ≡ after size (place_of size h n)
@@ -33,14 +30,14 @@ from_after : (size h n : ℕ) → h < size → 0 < n → n ≤ size → place_of
 from_after size h n lt some few = grind (arith, nat_tests)
 
 -- where the next one is written, after a write and after a read
-pub slot_grown : (size : ℕ) (w : Window) → count_of size w < size → slot size (grown size w) ≡ after size (slot size w)
+slot_grown : (size : ℕ) (w : Window) → count_of size w < size → slot size (grown size w) ≡ after size (slot size w)
 slot_grown size w room =
     let h = start_of size w in
     let n = count_of size w in
     let inside = start_within size w (omega arith) in
     (λ i. place_of size (start_kept size h (n + 1) inside i) (count_kept size h (n + 1) (omega arith) i)) ∙ further_on size h n inside room
 
-pub slot_shrunk : (size : ℕ) (w : Window) → 0 < count_of size w → slot size (shrunk size w) ≡ slot size w
+slot_shrunk : (size : ℕ) (w : Window) → 0 < count_of size w → slot size (shrunk size w) ≡ slot size w
 slot_shrunk size w some =
     let h = start_of size w in
     let n = count_of size w in
@@ -104,9 +101,7 @@ module _ {T : Type 0} where
 
   pub length_list : (xs : List T) (w : Window) → length (list xs w) ≡ count_of (length xs) w
   length_list xs w =
-      let n = count_of (length xs) w in
-      let h = start_of (length xs) w in
-      length-take-le n (turned xs h) (omega (arith, length_turned xs h, count_within (length xs) w))
+      simp (length-take, length-append, length-drop) (omega arith)
 
   plain : (xs : List T) (h n : ℕ) → h < length xs → n ≤ length xs → list xs (record { head = h; count = n }) ≡ queue xs h n
   plain xs h n lt le = (λ i. queue xs (start_kept (length xs) h n lt i) (count_kept (length xs) h n le i))
@@ -124,9 +119,8 @@ module _ {T : Type 0} where
   removed xs w x some is =
       let h = start_of (length xs) w in
       let n = count_of (length xs) w in
-      let few = count_within (length xs) w in
       let inside = start_within (length xs) w (omega arith) in
-      popped xs h n x inside is some few ∙ ap (λ l. x ∷ l) (sym (plain xs (after (length xs) h) (n - 1) (after_within (length xs) h inside) (omega arith)))
+      popped xs h n x inside is some (omega arith) ∙ ap (λ l. x ∷ l) (sym (plain xs (after (length xs) h) (n - 1) (after_within (length xs) h inside) (omega arith)))
 
   -- a write into the place that the window gives next appends to the list
   pub appends : (xs : List T) (w : Window) (x : T) (t : Turn) → Enters (length xs) w t → Appends xs w x (set xs t.place x) t.window
@@ -153,5 +147,5 @@ module _ {T : Type 0} where
       record {
         list = rest;
         next = ap (slot size) e.shrinks ∙ slot_shrunk size w e.some;
-        free = omega (arith, ap length rest, length_list xs w, count_within size w);
+        free = omega (arith, ap length rest, length_list xs w);
       }

@@ -5,7 +5,8 @@ ghost use Rattle.ring.specs.Queue.{waiting, capacity, free, memory, next_slot, P
 
 use crate::window::{Window, append, first};
 
-// The queue has as many places as are lent. Each value of the two fields is a queue.
+// The queue has as many places as are lent. Each value of the two fields is a queue, so there is no ghost field: one would
+// ask a proof of whoever writes the fields. Clauses name the fields, since they pin the lent memory: so there is no model.
 #[derive(Drop)]
 pub struct Fifo<'a, T> {
     pub places: &'a mut [T],
@@ -51,14 +52,8 @@ impl<'a, T: Copy> Fifo<'a, T> {
         ensures does { MatchResult result (λ _. Pushed self.old x self.new) (λ _. NotPushed self.old self.new) }
         ensures lender { self.new.places.ghost_name ≡ self.old.places.ghost_name }
     {
-        let window = self.window;
-        match append(self.places, window, x) {
-            Some(next) => {
-                self.window = next;
-                Ok(())
-            }
-            None => Err(Full),
-        }
+        self.window = append(self.places, self.window, x).ok_or(Full)?;
+        Ok(())
     }
 
     // The oldest, and the window that holds the others.

@@ -1,4 +1,6 @@
 // A queue in a row of places. A write takes one place, and leaves the others as they are.
+// The rings of elements, of frames and of a reserve share this. One ring over a trait of places would be no plainer: what each
+// promises of its own memory (records, bytes past the last frame, an array inside a value) would stand in the trait as well.
 ghost use Rattle.std.specs.Prelude.{◌≡◌, [], MatchOption};
 ghost use Rattle.ring.specs.Slots.{start_of, count_of, Enters, Leaves, list, Appends, Refused, Heads};
 
@@ -23,7 +25,7 @@ impl Window {
     pub fn filled(self, size: usize) -> usize
         ensures { result ≡ count_of size self }
     {
-        if self.count < size { self.count } else { size }
+        self.count.min(size)
     }
 
     // The place of the oldest, or of the next to come where none waits.

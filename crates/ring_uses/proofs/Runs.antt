@@ -1,6 +1,6 @@
 -- What follows from the answers of a queue that has room, or something waiting. Assumes nothing.
-use Rattle.std.proofs.Common.{◌≡◌, ℕ, ◌+◌, ◌<◌, List, length, set, Some, None, Ok, Err, Option, Result, sym, ap, ◌∙◌, arith, MatchOption, MatchResult}
-use Rattle.std.proofs.lemmas.List.{length_push, nil_from_length}
+use Rattle.std.proofs.Common.{◌≡◌, ℕ, ◌+◌, ◌<◌, List, length, set, Some, None, Ok, Err, Option, Result, ap, ◌∙◌, arith, MatchOption, MatchResult}
+use Rattle.std.proofs.lemmas.List.{length_push}
 use Rattle.ring.specs.declared.fifo.Fifo.{Fifo}
 use Rattle.ring.specs.declared.fifo.Full.{Full}
 use Rattle.ring.specs.Slots.{after}
@@ -33,10 +33,3 @@ module _ {T : Type 0} where
         next = p.next ∙ h.next;
       }
   pop_holds f g None ys n i h p = absurd (omega (arith, ap length p.none, h.count))
-
-  -- a push into an empty queue writes its first place, where there is one
-  pub first_written : (f g : Fifo T) (x : T) (r : Result (Unit {0}) Full) (ys : List T) → Holds f ys 0 0 → MatchResult r (λ _. Pushed f x g) (λ _. NotPushed f g) → memory g ≡ set ys 0 x
-  first_written f g x (Ok _) ys h p = p.wrote ∙ (λ k. set (h.memory k) (h.next k) x)
-  first_written f g x (Err _) ys h p =
-      let none = nil_from_length ys (omega (arith, p.full, h.count, ap length h.memory)) in
-      ap memory p.same ∙ h.memory ∙ none ∙ ap (λ l. set l 0 x) (sym none)

@@ -8,7 +8,7 @@ ghost use Rattle.ring_uses.specs.Ranges.{Within};
 use ring::Fifo;
 
 // A few bursts: the range is part of the type.
-#[derive(Clone, Copy)]
+#[derive(Clone, Copy, PartialEq, Eq, Debug)]
 pub struct Bursts {
     count: u8,
     ghost few: { Within 1 3 count },
@@ -19,15 +19,17 @@ impl Bursts {
     pub fn new(count: u8) -> Option<Bursts>
         ensures { MatchOption result (Within 1 3 count → ⊥) (λ b. b.count ≡ count) }
     {
-        if count < 1 || count > 3 {
-            return None;
+        // `then` would be no plainer: its closure has to require the range once more
+        if (1..=3).contains(&count) {
+            Some(Bursts { count })
+        } else {
+            None
         }
-        Some(Bursts { count })
     }
 }
 
 // An element that may hold a value with a range.
-#[derive(Clone, Copy)]
+#[derive(Clone, Copy, PartialEq, Eq, Debug)]
 pub enum Slip {
     Nothing,
     Ended(u8),

@@ -1,8 +1,7 @@
-use Rattle.std.proofs.Common.{◌≡◌}
 use Rattle.piles.specs.Batches.{SentFirst}
 use Rattle.piles.proofs.batches.send_all.Given as goal
 
-abbrev pub invariant-loop-r : goal.invariant-loop-r
-invariant-loop-r g l =
+abbrev pub invariant-loop-count : goal.invariant-loop-count
+invariant-loop-count g l =
     let view = g.L.Link.view in
-    (l.count ≡ l.r-index) × SentFirst (view l.initial.link) l.reports l.count (view l.link)
+    SentFirst (view l.initial.link) l.reports l.count-counter (view l.link)

@@ -1,11 +1,12 @@
-use Rattle.std.proofs.Common.{refl}
-use Rattle.reserve.specs.Lies.{lies}
+use Rattle.std.proofs.Common.{rules, refl}
+use Rattle.reserve.specs.Lies.{Lies, lies, Kept, Placed}
 use Rattle.reserve.proofs.Layers.{placed_held}
 use Rattle.reserve.proofs.layer.Reserve.hold.Goals as goal
 
-pub returns-then-push : goal.returns-then-push
-returns-then-push g c =
+pub returns : goal.returns
+returns g c =
     let view = g.L.Link.view in
     let s = c.args.self.now in
-    let e = c.if-push.ensures in
-    placed_held (lies view s) (lies view (record { below = s.below; held = c.push.new.self })) c.args.r c.requires.lawful c.requires.here e.room refl e.list
+    let t : Lies = lies view (record { below = s.below; held = c.push.new.self }) in
+    let placed : Kept s.held c.args.r c.push.new.self → Placed (lies view s) c.args.r t = λ e. placed_held (lies view s) t c.args.r c.requires.lawful c.requires.here e.room refl e.list in
+    search rules
