@@ -1,10 +1,10 @@
 // Bytes as places of one frame each. A write fills one place, and leaves all other bytes as they are.
-ghost use Rattle.std.specs.Prelude.{◌≡◌, ◌/◌, ◌<◌, [], length, if◌then◌else◌, MatchOption, MatchResult};
+ghost use Rattle.std.specs.Prelude.{◌≡◌, ◌/◌, ◌<◌, if◌then◌else◌, MatchResult};
 ghost use Rattle.report.specs.Lawful.{lawful};
 ghost use Rattle.report.specs.declared.refusal.Refusal.TheVariants.{OutOfRange, NoFreePlace};
 ghost use Rattle.frame.specs.Frame.{frame_size};
 ghost use Rattle.frame_ring.specs.Places.{places_in, place_at, Filled, NotFilled};
-ghost use Rattle.frame_ring.specs.Frames.{waiting, Appended, NotAppended, First};
+ghost use Rattle.frame_ring.specs.Frames.{Appended, NotAppended};
 
 use frame::{FRAME, read, write};
 use report::{Refusal, Report};
@@ -18,7 +18,7 @@ pub(crate) fn whole_places(size: usize) -> usize
 }
 
 // The report in a place: a blank one where no frame stands in it.
-fn read_place(bytes: &[u8], i: usize) -> Report
+pub(crate) fn read_place(bytes: &[u8], i: usize) -> Report
     requires { i < places_in bytes.now }
     ensures { result ≡ place_at bytes.now i }
 {
@@ -46,13 +46,6 @@ fn unplaced(report: Report) -> Refusal
     }
 }
 
-// How many reports wait.
-pub(crate) fn count_frames(bytes: &[u8], window: Window) -> usize
-    ensures { result ≡ length (waiting bytes.now window) }
-{
-    window.filled(whole_places(bytes.len()))
-}
-
 // Writes a report's frame into the place behind those that wait, or nothing where it is refused.
 pub(crate) fn append_frame(
     bytes: &mut [u8],
@@ -66,12 +59,4 @@ pub(crate) fn append_frame(
         .ok_or_else(|| unplaced(report))?;
     write_place(bytes, turn.place, report)?;
     Ok(turn.window)
-}
-
-// The oldest report that waits, and the window that holds the others.
-pub(crate) fn first_frame(bytes: &[u8], window: Window) -> Option<(Report, Window)>
-    ensures { MatchOption result (waiting bytes.now window ≡ []) (λ p. First bytes.now window p.0 p.1) }
-{
-    let turn = window.front(whole_places(bytes.len()))?;
-    Some((read_place(bytes, turn.place), turn.window))
 }
