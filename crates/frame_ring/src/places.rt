@@ -1,8 +1,7 @@
 // Bytes as places of one frame each. A write fills one place, and leaves all other bytes as they are.
-ghost use Rattle.std.specs.Prelude.{◌≡◌, ◌/◌, ◌<◌, if◌then◌else◌, MatchResult};
+ghost use Rattle.std.specs.Prelude.{◌≡◌, ◌<◌, if◌then◌else◌, MatchResult};
 ghost use Rattle.report.specs.Lawful.{lawful};
 ghost use Rattle.report.specs.declared.refusal.Refusal.TheVariants.{OutOfRange, NoFreePlace};
-ghost use Rattle.frame.specs.Frame.{frame_size};
 ghost use Rattle.frame_ring.specs.Places.{places_in, place_at, Filled, NotFilled};
 ghost use Rattle.frame_ring.specs.Frames.{Appended, NotAppended};
 
@@ -10,11 +9,11 @@ use frame::{FRAME, read, write};
 use report::{Refusal, Report};
 use ring::Window;
 
-// How many whole places so many bytes make.
-pub(crate) fn whole_places(size: usize) -> usize
-    ensures { result ≡ size / frame_size }
+// How many whole places the bytes make.
+pub(crate) fn whole_places(bytes: &[u8]) -> usize
+    ensures { result ≡ places_in bytes.now }
 {
-    size / FRAME
+    bytes.len() / FRAME
 }
 
 // The report in a place: a blank one where no frame stands in it.
@@ -55,7 +54,7 @@ pub(crate) fn append_frame(
     ensures { MatchResult result (Appended bytes.old window report bytes.new) (λ e. NotAppended bytes.old window report e bytes.new) }
 {
     let turn = window
-        .behind(whole_places(bytes.len()))
+        .behind(whole_places(bytes))
         .ok_or_else(|| unplaced(report))?;
     write_place(bytes, turn.place, report)?;
     Ok(turn.window)

@@ -40,14 +40,14 @@ impl<'a> FrameRing<'a> {
     pub fn len(&self) -> usize
         ensures { result ≡ length (frame_view self.now).waiting }
     {
-        self.window.filled(whole_places(self.bytes.len()))
+        self.window.filled(whole_places(self.bytes))
     }
 
     // How many more can wait.
     pub fn room(&self) -> usize
         ensures { result ≡ (frame_view self.now).free }
     {
-        whole_places(self.bytes.len()) - self.len()
+        whole_places(self.bytes) - self.len()
     }
 
     // The oldest, and the window that holds the others.
@@ -55,7 +55,7 @@ impl<'a> FrameRing<'a> {
     fn oldest(&self) -> Option<(Report, Window)>
         ensures { MatchOption result ((frame_view self.now).waiting ≡ []) (λ p. First (memory self.now) self.now.window p.0 p.1) }
     {
-        let turn = self.window.front(whole_places(self.bytes.len()))?;
+        let turn = self.window.front(whole_places(self.bytes))?;
         Some((read_place(self.bytes, turn.place), turn.window))
     }
 }
