@@ -1,24 +1,23 @@
 // Bytes as places of one frame each. A write fills one place, and leaves all other bytes as they are.
-ghost use Rattle.std.specs.Prelude.{◌≡◌, ◌/◌, ◌<◌, [], length, if◌then◌else◌, MatchOption, MatchResult};
+ghost use Rattle.std.specs.Prelude.{◌≡◌, ◌<◌, if◌then◌else◌, MatchResult};
 ghost use Rattle.report.specs.Lawful.{lawful};
 ghost use Rattle.report.specs.declared.refusal.Refusal.TheVariants.{OutOfRange, NoFreePlace};
-ghost use Rattle.frame.specs.Frame.{frame_size};
 ghost use Rattle.frame_ring.specs.Places.{places_in, place_at, Filled, NotFilled};
-ghost use Rattle.frame_ring.specs.Frames.{waiting, Appended, NotAppended, First};
+ghost use Rattle.frame_ring.specs.Frames.{Appended, NotAppended};
 
 use frame::{FRAME, read, write};
 use report::{Refusal, Report};
 use ring::Window;
 
-// How many whole places so many bytes make.
-pub(crate) fn whole_places(size: usize) -> usize
-    ensures { result ≡ size / frame_size }
+// How many whole places the bytes make.
+pub(crate) fn whole_places(bytes: &[u8]) -> usize
+    ensures { result ≡ places_in bytes.now }
 {
-    size / FRAME
+    bytes.len() / FRAME
 }
 
 // The report in a place: a blank one where no frame stands in it.
-fn read_place(bytes: &[u8], i: usize) -> Report
+pub(crate) fn read_place(bytes: &[u8], i: usize) -> Report
     requires { i < places_in bytes.now }
     ensures { result ≡ place_at bytes.now i }
 {
@@ -46,13 +45,6 @@ fn unplaced(report: Report) -> Refusal
     }
 }
 
-// How many reports wait.
-pub(crate) fn count_frames(bytes: &[u8], window: Window) -> usize
-    ensures { result ≡ length (waiting bytes.now window) }
-{
-    window.filled(whole_places(bytes.len()))
-}
-
 // Writes a report's frame into the place behind those that wait, or nothing where it is refused.
 pub(crate) fn append_frame(
     bytes: &mut [u8],
@@ -62,16 +54,8 @@ pub(crate) fn append_frame(
     ensures { MatchResult result (Appended bytes.old window report bytes.new) (λ e. NotAppended bytes.old window report e bytes.new) }
 {
     let turn = window
-        .behind(whole_places(bytes.len()))
+        .behind(whole_places(bytes))
         .ok_or_else(|| unplaced(report))?;
     write_place(bytes, turn.place, report)?;
     Ok(turn.window)
-}
-
-// The oldest report that waits, and the window that holds the others.
-pub(crate) fn first_frame(bytes: &[u8], window: Window) -> Option<(Report, Window)>
-    ensures { MatchOption result (waiting bytes.now window ≡ []) (λ p. First bytes.now window p.0 p.1) }
-{
-    let turn = window.front(whole_places(bytes.len()))?;
-    Some((read_place(bytes, turn.place), turn.window))
 }

@@ -1,10 +1,10 @@
 // The ring of frames in lent bytes, as a link.
-ghost use Rattle.std.specs.Prelude.{◌≡◌, [], length, MatchOption, MatchResult, nat_lt};
+ghost use Rattle.std.specs.Prelude.{◌≡◌, [], length, MatchOption, MatchResult};
 ghost use Rattle.link.specs.Links.{Sends, Takes, MakesUp};
 ghost use Rattle.frame_ring.specs.Places.{places_in, Filled};
 ghost use Rattle.frame_ring.specs.Frames.{bytes_view, First, NotSent};
 
-use crate::places::{append_frame, count_frames, first_frame, whole_places};
+use crate::places::{append_frame, read_place, whole_places};
 use link::Link;
 use report::{Refusal, Report};
 use ring::Window;
@@ -32,7 +32,7 @@ impl<'a> FrameRing<'a> {
     {
         FrameRing {
             bytes,
-            window: Window { head: 0, count: 0 },
+            window: Window::EMPTY,
         }
     }
 
@@ -40,14 +40,14 @@ impl<'a> FrameRing<'a> {
     pub fn len(&self) -> usize
         ensures { result ≡ length (frame_view self.now).waiting }
     {
-        count_frames(self.bytes, self.window)
+        self.window.filled(whole_places(self.bytes))
     }
 
     // How many more can wait.
     pub fn room(&self) -> usize
         ensures { result ≡ (frame_view self.now).free }
     {
-        whole_places(self.bytes.len()) - self.len()
+        whole_places(self.bytes) - self.len()
     }
 
     // The oldest, and the window that holds the others.
@@ -55,7 +55,8 @@ impl<'a> FrameRing<'a> {
     fn oldest(&self) -> Option<(Report, Window)>
         ensures { MatchOption result ((frame_view self.now).waiting ≡ []) (λ p. First (memory self.now) self.now.window p.0 p.1) }
     {
-        first_frame(self.bytes, self.window)
+        let turn = self.window.front(whole_places(self.bytes))?;
+        Some((read_place(self.bytes, turn.place), turn.window))
     }
 }
 

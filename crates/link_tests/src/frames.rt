@@ -14,13 +14,9 @@ const UNTOUCHED: u8 = 7;
 
 // Whether the bytes begin with some, and nothing was written behind them.
 fn holds_only(bytes: &[u8], front: &[u8]) -> bool {
-    for (i, byte) in bytes.iter().enumerate() {
-        let expected = if i < front.len() { front[i] } else { UNTOUCHED };
-        if *byte != expected {
-            return false;
-        }
-    }
-    true
+    bytes
+        .strip_prefix(front)
+        .is_some_and(|rest| rest.iter().all(|byte| *byte == UNTOUCHED))
 }
 
 // Sends one report and the lawless one, each twice: what each is answered.

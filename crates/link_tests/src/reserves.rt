@@ -4,7 +4,7 @@ use crate::samples::{
 };
 use frame_ring::FrameRing;
 use link::Link;
-use piles::{fill_frames, fill_records};
+use piles::{Unsent, fill_frames, fill_records};
 use report::Refusal;
 use reserve::{RESERVE_PLACES, Reserve};
 use ring::Fifo;
@@ -43,16 +43,14 @@ fn a_reserve_that_holds_reports_is_kept(rt: HostRuntime) -> Result<(), Fail> {
     assert_eq!(rt; sent(&mut layer, numbered(2)), 0);
     assert_eq!(rt; layer.held(), 0, "the ring has places");
     assert_eq!(rt; sent(&mut layer, numbered(3)), 0);
-    match layer.into_below() {
-        Ok(_) => Err(Fail::new("a held report is lost")),
-        Err(mut layer) => {
-            assert_eq!(rt; taken(&mut layer), (1, 0));
-            match layer.into_below() {
-                Ok(mut ring) => holds(&rt, &mut ring, 2, 2),
-                Err(_) => Err(Fail::new("the held report did not move down")),
-            }
-        }
-    }
+    let Err(mut layer) = layer.into_below() else {
+        return Err(Fail::new("a held report is lost"));
+    };
+    assert_eq!(rt; taken(&mut layer), (1, 0));
+    let Ok(mut ring) = layer.into_below() else {
+        return Err(Fail::new("the held report did not move down"));
+    };
+    holds(&rt, &mut ring, 2, 2)
 }
 
 #[test]
@@ -90,17 +88,27 @@ fn two_reserves_above_frames(rt: HostRuntime) -> Result<(), Fail> {
 #[test]
 fn filled_piles_say_why_they_stop(rt: HostRuntime) -> Result<(), Fail> {
     let mut memory = [numbered(1); 2];
-    let (mut pile, sending) = fill_records(&mut memory, &row());
-    assert_eq!(rt; sending.count, 18);
-    assert_eq!(rt; sending.refusal, Some(Refusal::NoFreePlace));
+    let (mut pile, sent) = fill_records(&mut memory, &row());
+    assert_eq!(rt;
+        sent,
+        Err(Unsent {
+            count: 18,
+            refusal: Refusal::NoFreePlace
+        })
+    );
     assert_eq!(rt; pile.held(), RESERVE_PLACES);
     holds(&rt, &mut pile, 1, 18)?;
     let mut bytes = [0u8; 47];
-    let (mut layer, sending) = fill_frames(
+    let (mut layer, sent) = fill_frames(
         &mut bytes,
         &[numbered(1), numbered(2), lawless(), numbered(3)],
     );
-    assert_eq!(rt; sending.count, 2);
-    assert_eq!(rt; sending.refusal, Some(Refusal::OutOfRange));
+    assert_eq!(rt;
+        sent,
+        Err(Unsent {
+            count: 2,
+            refusal: Refusal::OutOfRange
+        })
+    );
     holds(&rt, &mut layer, 1, 2)
 }

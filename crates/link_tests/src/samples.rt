@@ -1,9 +1,10 @@
 // Numbered reports, what a link answers, and examples that are written once for every link.
 use link::Link;
-use piles::{Sending, send_all, take_all};
-use report::{Address, Elapsed, Report, Standing};
+use piles::{send_all, take_all};
+use report::{Address, Elapsed, Refusal, Report, Standing};
 use std::process::Abort;
 use std::test::Fail;
+use std::{array, iter};
 
 // More reports than any pile of these tests has places.
 pub(crate) const ROW: usize = 20;
@@ -24,68 +25,42 @@ pub(crate) fn numbered(number: u16) -> Report {
 
 // A report whose elapsed time is past its tick.
 pub(crate) fn lawless() -> Report {
-    let mut report = numbered(1);
-    report.tick = 599;
-    report
-}
-
-// Numbers reports from 1 on.
-fn number_all(reports: &mut [Report]) {
-    let mut number = 0u16;
-    for report in reports.iter_mut() {
-        number = number.saturating_add(1);
-        report.number = number;
+    Report {
+        tick: 599,
+        ..numbered(1)
     }
 }
 
 // Reports that are numbered from 1 on.
 pub(crate) fn row() -> [Report; ROW] {
-    let mut reports = [numbered(1); ROW];
-    number_all(&mut reports);
-    reports
+    array::from_fn(|i| numbered(i as u16 + 1))
 }
 
 // Whether the first `count` are numbered from `first` on, and nothing was written behind them.
 pub(crate) fn in_order(reports: &[Report], first: u16, count: usize) -> bool {
-    let mut number = first;
-    for (i, report) in reports.iter().enumerate() {
-        let expected = if i < count { number } else { UNWRITTEN };
-        if report.number != expected {
-            return false;
-        }
-        number = number.saturating_add(1);
-    }
-    true
+    let numbers = (first..).take(count).chain(iter::repeat(UNWRITTEN));
+    reports
+        .iter()
+        .map(|report| report.number)
+        .eq(numbers.take(reports.len()))
 }
 
 // The number that a report is refused with, or 0.
 pub(crate) fn sent<L: Link>(link: &mut L, report: Report) -> u8 {
-    match link.send(report) {
-        Ok(()) => 0,
-        Err(refusal) => refusal.number(),
-    }
+    link.send(report).map_or_else(Refusal::number, |()| 0)
 }
 
 // The number of the report that is taken and 0, or 0 and the number that the take is refused with.
 pub(crate) fn taken<L: Link>(link: &mut L) -> (u16, u8) {
-    match link.take() {
-        Ok(report) => (report.number, 0),
-        Err(refusal) => (0, refusal.number()),
-    }
+    link.take().map_or_else(|refusal| (0, refusal.number()), |report| (report.number, 0))
 }
 
 // How many reports of the row went, and the number that the next one was refused with, or 0.
 pub(crate) fn filled<L: Link>(link: &mut L) -> (usize, u8) {
-    match send_all(link, &row()) {
-        Sending {
-            count,
-            refusal: Some(refusal),
-        } => (count, refusal.number()),
-        Sending {
-            count,
-            refusal: None,
-        } => (count, 0),
-    }
+    send_all(link, &row()).map_or_else(
+        |unsent| (unsent.count, unsent.refusal.number()),
+        |()| (ROW, 0),
+    )
 }
 
 // Takes all that waits: `count` reports, numbered from `first` on.

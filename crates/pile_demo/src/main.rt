@@ -8,11 +8,12 @@ use piles::{send_all, take_all};
 use report::{Address, Elapsed, Report, Standing};
 use reserve::Reserve;
 use ring::Fifo;
-use std::io;
+use std::{array, io};
 
 // More reports than any of the piles has places.
 const ROW: usize = 20;
 
+// A sample report. The tests of links have one alike: a crate of its own for so few lines would be no plainer.
 fn numbered(number: u16) -> Report {
     Report {
         address: Address { kind: 1, number: 2 },
@@ -24,15 +25,6 @@ fn numbered(number: u16) -> Report {
     }
 }
 
-// Numbers reports from 1 on.
-fn number_all(reports: &mut [Report]) {
-    let mut number = 0u16;
-    for report in reports.iter_mut() {
-        number = number.saturating_add(1);
-        report.number = number;
-    }
-}
-
 // Fills a pile and empties it into a lent place, and prints the line.
 fn show<L: Link>(
     rt: HostRuntime,
@@ -40,22 +32,17 @@ fn show<L: Link>(
     link: &mut L,
     place: &mut [Report],
 ) -> io::Result<()> {
-    let mut row = [numbered(1); ROW];
-    number_all(&mut row);
-    let sending = send_all(link, &row);
-    let count = sending.count;
-    let number = match sending.refusal {
-        Some(refusal) => refusal.number(),
-        None => 0,
-    };
+    let row: [Report; ROW] = array::from_fn(|i| numbered(i as u16 + 1));
+    let (count, number) = send_all(link, &row).map_or_else(
+        |unsent| (unsent.count, unsent.refusal.number()),
+        |()| (ROW, 0),
+    );
     print!(rt; "{name}: {count} sent, then refused with {number}; taken")?;
     let taken = take_all(link, place);
-    for report in &place[0..taken] {
-        let number = report.number;
-        print!(rt; " {number}")?;
+    for report in &place[..taken] {
+        print!(rt; " {}", report.number)?;
     }
-    println!(rt)?;
-    Ok(())
+    println!(rt)
 }
 
 fn main(rt: HostRuntime) -> io::Result<()> {

@@ -1,5 +1,5 @@
 // The places of a reserve.
-ghost use Rattle.std.specs.Prelude.{◌≡◌, ◌<◌, ◌≤◌, [], ◌∷◌, ◌++◌, length, MatchBool, MatchOption, MatchResult};
+ghost use Rattle.std.specs.Prelude.{◌≡◌, ◌<◌, ◌≤◌, [], ◌∷◌, length, MatchBool, MatchOption, MatchResult};
 ghost use Rattle.ring.specs.Slots.{list};
 ghost use Rattle.reserve.specs.Lies.{reserve_places, kept, Kept, NotKept};
 
@@ -24,7 +24,7 @@ impl Held {
     {
         Held {
             places: [Report::BLANK; RESERVE_PLACES],
-            window: Window { head: 0, count: 0 },
+            window: Window::EMPTY,
         }
     }
 

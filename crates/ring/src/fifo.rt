@@ -27,7 +27,7 @@ impl<'a, T: Copy> Fifo<'a, T> {
     {
         Fifo {
             places,
-            window: Window { head: 0, count: 0 },
+            window: Window::EMPTY,
         }
     }
 

@@ -21,6 +21,9 @@ pub struct Turn {
 }
 
 impl Window {
+    // Nothing waits, and the next to come stands in the first place.
+    pub const EMPTY: Window = Window { head: 0, count: 0 };
+
     // How many wait in a row of `size` places.
     pub fn filled(self, size: usize) -> usize
         ensures { result ≡ count_of size self }

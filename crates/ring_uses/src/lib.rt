@@ -2,7 +2,7 @@
 // gone, and that elements whose ranges are part of their type come out as they went in.
 #![tactic(auto)]
 
-ghost use Rattle.std.specs.Prelude.{◌≡◌, ◌≤◌, [], ◌∷◌, Some, None, MatchOption, slice_set};
+ghost use Rattle.std.specs.Prelude.{◌≡◌, [], ◌∷◌, Some, None, MatchOption, slice_set};
 ghost use Rattle.ring_uses.specs.Ranges.{Within};
 
 use ring::Fifo;
