@@ -19,10 +19,9 @@ use rules::{Advice, Instruction, Operation, Order};
 use table::place::Outcome;
 use table::table::Table;
 
-// Each call that carries a tick is handed its tick, its address and a place for its order, as values of
-// their own: a rule of the project.
-//
-// No `Model`: clauses would see the state alone, and a refusal leaves the whole engine as it was.
+// An engine over a link. Each call that carries a tick is handed its tick, its address and a place for
+// its order as values of their own: a rule of the project. No `Model`: clauses would see the state
+// alone, and a refusal leaves the whole engine as it was.
 pub struct Engine<L> {
     table: Table,
     link: L,
