@@ -8,15 +8,15 @@ use Rattle.bursts.specs.Limits.{most_tones}
 
 -- a burst lasts its tones and the pauses between them
 abbrev pub burst_length : BurstList → ℕ
-burst_length b = b.tones * b.tone + (b.tones - 1) * b.pause
+burst_length b = b.numbers.tones * b.numbers.tone + (b.numbers.tones - 1) * b.numbers.pause
 
 -- a sound lasts its bursts and the gaps between them
 abbrev pub sound_length : BurstList → ℕ
-sound_length b = b.bursts * burst_length b + (b.bursts - 1) * b.gap
+sound_length b = b.numbers.bursts * burst_length b + (b.numbers.bursts - 1) * b.numbers.gap
 
 -- the tone k of the burst j, both counted from 0: a burst starts with every burst length and gap, a tone in it with every tone and pause
 abbrev pub tone_at : BurstList → ℕ → ℕ → Tone
-tone_at b j k = record { start = j * (burst_length b + b.gap) + k * (b.tone + b.pause); length = b.tone }
+tone_at b j k = record { start = j * (burst_length b + b.numbers.gap) + k * (b.numbers.tone + b.numbers.pause); length = b.numbers.tone }
 
 -- the first n tones of the burst j
 abbrev pub tones_of : BurstList → ℕ → ℕ → List Tone
@@ -26,15 +26,15 @@ tones_of b j (suc n) = tones_of b j n ++ (tone_at b j n ∷ [])
 -- the tones of the first n bursts
 abbrev pub bursts_of : BurstList → ℕ → List Tone
 bursts_of b zero = []
-bursts_of b (suc n) = bursts_of b n ++ tones_of b n b.tones
+bursts_of b (suc n) = bursts_of b n ++ tones_of b n b.numbers.tones
 
 -- the plan: every tone of every burst, in order
 abbrev pub plan : BurstList → List Tone
-plan b = bursts_of b b.bursts
+plan b = bursts_of b b.numbers.bursts
 
 -- how many tones there are
 abbrev pub tone_count : BurstList → ℕ
-tone_count b = b.bursts * b.tones
+tone_count b = b.numbers.bursts * b.numbers.tones
 
 -- a place that is long enough has the plan in front and is as it was further on
 pub record Written (b : BurstList) (before after : List Tone) (n : ℕ) : Type 0 where

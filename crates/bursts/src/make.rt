@@ -1,12 +1,15 @@
 // The numbers of a burst list, and the maker that checks them.
-ghost use Rattle.std.specs.Prelude.{◌≡◌};
+ghost use Rattle.std.specs.Prelude.{◌≡◌, ◌↔◌, IsTrue};
 ghost use Rattle.bursts.specs.Made.{numbers_of, Made};
+ghost use Rattle.bursts.specs.Ranges.{InRange};
 
 use crate::limits::{BURST_GAP, BURST_TONES, BURSTS, TONE_GAP, TONE_LENGTH, WARNING_SECONDS};
 use crate::list::BurstList;
 use report::Refusal;
 
-// The six numbers that a burst list is made of, in range or not; `BurstList` says what each means.
+// The six numbers that a burst list is made of, in range or not: when a sound starts, in seconds before the
+// period's end (`warning`); how many bursts it has, and tones each burst; the ticks from the end of a burst to the
+// start of the next (`gap`), of a tone, and from a tone's end to the next tone's start (`pause`).
 #[derive(Clone, Copy, PartialEq, Eq, Debug)]
 pub struct BurstNumbers {
     pub warning: u16,
@@ -17,49 +20,52 @@ pub struct BurstNumbers {
     pub pause: u8,
 }
 
+impl BurstNumbers {
+    fn are_in_range(&self) -> bool
+        ensures { IsTrue result ↔ InRange self.now }
+    {
+        (1..=WARNING_SECONDS).contains(&self.warning)
+            && (1..=BURSTS).contains(&self.bursts)
+            && (1..=BURST_TONES).contains(&self.tones)
+            && (1..=BURST_GAP).contains(&self.gap)
+            && (1..=TONE_LENGTH).contains(&self.tone)
+            && (1..=TONE_GAP).contains(&self.pause)
+    }
+}
+
+impl TryFrom<BurstNumbers> for BurstList {
+    type Error = Refusal;
+
+    ghost try_from_gives = { Made };
+
+    fn try_from(numbers: BurstNumbers) -> Result<BurstList, Refusal> {
+        if !numbers.are_in_range() {
+            return Err(Refusal::OutOfRange);
+        }
+        Ok(BurstList { numbers })
+    }
+}
+
+impl From<BurstList> for BurstNumbers {
+    ghost from_gives = { λ list result. result ≡ numbers_of list };
+
+    fn from(list: BurstList) -> BurstNumbers {
+        list.numbers
+    }
+}
+
 impl BurstList {
     // The list of these numbers, refused where one is out of its range.
     pub fn new(numbers: BurstNumbers) -> Result<BurstList, Refusal>
         ensures { Made numbers result }
     {
-        let BurstNumbers {
-            warning,
-            bursts,
-            tones,
-            gap,
-            tone,
-            pause,
-        } = numbers;
-        if warning < 1 || warning > WARNING_SECONDS || bursts < 1 || bursts > BURSTS {
-            return Err(Refusal::OutOfRange);
-        }
-        if tones < 1 || tones > BURST_TONES || gap < 1 || gap > BURST_GAP {
-            return Err(Refusal::OutOfRange);
-        }
-        if tone < 1 || tone > TONE_LENGTH || pause < 1 || pause > TONE_GAP {
-            return Err(Refusal::OutOfRange);
-        }
-        Ok(BurstList {
-            warning,
-            bursts,
-            tones,
-            gap,
-            tone,
-            pause,
-        })
+        BurstList::try_from(numbers)
     }
 
     // The numbers of the list.
     pub fn numbers(&self) -> BurstNumbers
         ensures { result ≡ numbers_of self.now }
     {
-        BurstNumbers {
-            warning: self.warning,
-            bursts: self.bursts,
-            tones: self.tones,
-            gap: self.gap,
-            tone: self.tone,
-            pause: self.pause,
-        }
+        self.numbers
     }
 }

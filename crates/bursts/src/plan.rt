@@ -1,8 +1,9 @@
 // How long a burst list sounds, and the plan of its tones.
-ghost use Rattle.std.specs.Prelude.{◌≡◌, ◌+◌, ◌<◌, ◌≤◌, ◌++◌, length, take, drop};
-ghost use Rattle.bursts.specs.Plan.{burst_length, sound_length, tone_at, tones_of, Planned};
+ghost use Rattle.std.specs.Prelude.{◌≡◌, ◌<◌, ◌≤◌};
+ghost use Rattle.bursts.specs.Plan.{burst_length, sound_length, tone_at, Planned};
 
 use crate::list::BurstList;
+use crate::make::BurstNumbers;
 use report::Refusal;
 
 // A tone: its start, in ticks from the sound's start, and how many ticks it lasts.
@@ -18,37 +19,40 @@ impl BurstList {
         ensures value { result ≡ burst_length self.now }
         ensures small { result ≤ 100 }
     {
-        self.tones as u32 * self.tone as u32 + (self.tones as u32 - 1) * self.pause as u32
+        let BurstNumbers {
+            tones,
+            tone,
+            pause,
+            ..
+        } = self.numbers;
+        tones as u32 * tone as u32 + (tones as u32 - 1) * pause as u32
     }
 
     // The ticks that all bursts last, with the gaps between them.
     pub fn length(&self) -> u32
         ensures { result ≡ sound_length self.now }
     {
-        self.bursts as u32 * self.burst_length() + (self.bursts as u32 - 1) * self.gap as u32
+        let BurstNumbers { bursts, gap, .. } = self.numbers;
+        bursts as u32 * self.burst_length() + (bursts as u32 - 1) * gap as u32
     }
 
     // The tone `k` of the burst `j`, both counted from 0.
-    fn tone_at(&self, j: u8, k: u8) -> Tone
-        requires { (j < self.now.bursts) × (k < self.now.tones) }
+    fn tone_at(&self, j: usize, k: usize) -> Tone
+        requires burst { j < self.now.numbers.bursts }
+        requires tone { k < self.now.numbers.tones }
         ensures { result ≡ tone_at self.now j k }
     {
-        let every_burst = self.burst_length() + self.gap as u32;
-        let every_tone = self.tone as u32 + self.pause as u32;
+        let BurstNumbers {
+            gap,
+            tone,
+            pause,
+            ..
+        } = self.numbers;
+        let every_burst = self.burst_length() + gap as u32;
+        let every_tone = tone as u32 + pause as u32;
         Tone {
             start: j as u32 * every_burst + k as u32 * every_tone,
-            length: self.tone,
-        }
-    }
-
-    // Writes the tones of the burst `j` from the place `at` on.
-    fn write_burst(&self, j: u8, place: &mut [Tone], at: usize)
-        requires { (j < self.now.bursts) × (at + self.now.tones ≤ length place.old) }
-        ensures wrote { take (at + self.now.tones) place.new ≡ take at place.old ++ tones_of self.now j self.now.tones }
-        ensures rest { drop (at + self.now.tones) place.new ≡ drop (at + self.now.tones) place.old }
-    {
-        for k in 0..self.tones {
-            place[at + k as usize] = self.tone_at(j, k);
+            length: tone,
         }
     }
 
@@ -56,14 +60,13 @@ impl BurstList {
     pub fn tone_plan(&self, place: &mut [Tone]) -> Result<usize, Refusal>
         ensures { Planned self.now place.old place.new result }
     {
-        let count = self.bursts as usize * self.tones as usize;
+        let tones = self.numbers.tones as usize;
+        let count = self.numbers.bursts as usize * tones;
         if place.len() < count {
             return Err(Refusal::PlaceTooShort);
         }
-        let mut at = 0;
-        for j in 0..self.bursts {
-            self.write_burst(j, place, at);
-            at += self.tones as usize;
+        for (n, tone) in place[..count].iter_mut().enumerate() {
+            *tone = self.tone_at(n / tones, n % tones);
         }
         Ok(count)
     }

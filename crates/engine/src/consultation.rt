@@ -6,9 +6,11 @@ use report::{Address, Refusal};
 // Handed out by set-up, and taken back by continue or bar. It can only be let go once it is ended, so
 // a host that forgets one does not get through the check; and none is ended twice, since the call that
 // ends it takes it.
+#[derive(Debug)]
 pub struct Consultation {
-    pub(crate) address: Address,
-    pub(crate) ended: bool,
+    address: Address,
+    // A rule of the project keeps this flag: the contract of `drop` reads it.
+    ended: bool,
 }
 
 impl Drop for Consultation {
@@ -52,7 +54,7 @@ impl Consultation {
 }
 
 // A refused call: why, and the consultation back as it was.
-#[derive(Drop)]
+#[derive(Debug, Drop)]
 pub struct Returned {
     pub refusal: Refusal,
     pub consultation: Consultation,

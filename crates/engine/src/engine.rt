@@ -1,6 +1,6 @@
 // The engine over a link: it asks the link for a free place, lets the table carry out the call, and
 // hands the report on.
-ghost use Rattle.std.specs.Prelude.{◌≡◌};
+ghost use Rattle.std.specs.Prelude.{◌≡◌, false, IfErr, IfOk, OnErr};
 ghost use Rattle.std.specs.Option.{option_map};
 ghost use Rattle.rules.specs.Core.{start, dues_at};
 ghost use Rattle.rules.specs.Dues.{earliest, soonest};
@@ -9,7 +9,7 @@ ghost use Rattle.rules.specs.Steps.{Does, took};
 ghost use Rattle.rules.specs.declared.call.Call.TheVariants.{On, Fire, Take};
 ghost use Rattle.rules.specs.declared.call.Operation.TheVariants.{SetUp, Continue, Bar, Instruct, Advise, Answer, Disconnect, Confirm, Repeat};
 ghost use Rattle.engine.specs.Engines.{state};
-ghost use Rattle.engine.specs.Answers.{Hands, replied, set_up_replied, returned_replied, Leaves, SetUpLeaves, ReturnedLeaves};
+ghost use Rattle.engine.specs.Answers.{Hands, replied, returned_replied, Leaves};
 
 use crate::consultation::{Consultation, Returned};
 use link::Link;
@@ -19,16 +19,19 @@ use rules::{Advice, Instruction, Operation, Order};
 use table::place::Outcome;
 use table::table::Table;
 
+// An engine over a link. Each call that carries a tick is handed its tick, its address and a place for
+// its order as values of their own: a rule of the project. No `Model`: clauses would see the state
+// alone, and a refusal leaves the whole engine as it was.
 pub struct Engine<L> {
-    pub(crate) table: Table,
-    pub(crate) link: L,
+    table: Table,
+    link: L,
 }
 
 impl<L: Link> Engine<L> {
     // No connection yet; the wait for a confirmation is clamped to 1 to 600 ticks.
     pub fn new(wait: u32, link: L) -> Engine<L>
-        ensures result_value { state L.Link.view result ≡ record { core = start wait; view = L.Link.view link } }
-        ensures link_value { result.link ≡ link }
+        ensures starts { state L.Link.view result ≡ record { core = start wait; view = L.Link.view link } }
+        ensures link { result.link ≡ link }
     {
         Engine {
             table: Table::new(wait),
@@ -55,7 +58,8 @@ impl<L: Link> Engine<L> {
         *order = outcome.order;
     }
 
-    fn operate(
+    // Carries out an operation by its value.
+    pub(crate) fn operate(
         &mut self,
         tick: u32,
         address: Address,
@@ -78,13 +82,12 @@ impl<L: Link> Engine<L> {
         address: Address,
         order: &mut Order,
     ) -> Result<Consultation, Refusal>
-        ensures does { Does (On tick address SetUp) (state L.Link.view self.old) (set_up_replied result order.new) (state L.Link.view self.new) }
-        ensures leaves { SetUpLeaves address result self.old self.new order.old order.new }
+        ensures does { Does (On tick address SetUp) (state L.Link.view self.old) (replied result order.new) (state L.Link.view self.new) }
+        ensures consultation { IfOk result (λ c. (c.address ≡ address) × (c.ended ≡ false)) }
+        ensures leaves { Leaves result self.old self.new order.old order.new }
     {
-        match self.operate(tick, address, &Operation::SetUp, order) {
-            Ok(()) => Ok(Consultation::at(address)),
-            Err(refusal) => Err(refusal),
-        }
+        self.operate(tick, address, &Operation::SetUp, order)?;
+        Ok(Consultation::at(address))
     }
 
     // Ends a consultation by an operation, or hands it back.
@@ -96,9 +99,10 @@ impl<L: Link> Engine<L> {
         order: &mut Order,
     ) -> Result<(), Returned>
         ensures does { Does (On tick consultation.address operation.now) (state L.Link.view self.old) (returned_replied result order.new) (state L.Link.view self.new) }
-        ensures leaves { ReturnedLeaves consultation result self.old self.new order.old order.new }
+        ensures returned { IfErr result (λ e. e.consultation ≡ consultation) }
+        ensures leaves { Leaves result self.old self.new order.old order.new }
     {
-        match self.operate(tick, consultation.address, operation, order) {
+        match self.operate(tick, consultation.address(), operation, order) {
             Ok(()) => {
                 let _ = consultation.surrender();
                 Ok(())
@@ -118,7 +122,8 @@ impl<L: Link> Engine<L> {
         order: &mut Order,
     ) -> Result<(), Returned>
         ensures does { Does (On tick consultation.address Continue) (state L.Link.view self.old) (returned_replied result order.new) (state L.Link.view self.new) }
-        ensures leaves { ReturnedLeaves consultation result self.old self.new order.old order.new }
+        ensures returned { IfErr result (λ e. e.consultation ≡ consultation) }
+        ensures leaves { Leaves result self.old self.new order.old order.new }
     {
         self.end_consultation(tick, consultation, &Operation::Continue, order)
     }
@@ -131,7 +136,8 @@ impl<L: Link> Engine<L> {
         order: &mut Order,
     ) -> Result<(), Returned>
         ensures does { Does (On tick consultation.address Bar) (state L.Link.view self.old) (returned_replied result order.new) (state L.Link.view self.new) }
-        ensures leaves { ReturnedLeaves consultation result self.old self.new order.old order.new }
+        ensures returned { IfErr result (λ e. e.consultation ≡ consultation) }
+        ensures leaves { Leaves result self.old self.new order.old order.new }
     {
         self.end_consultation(tick, consultation, &Operation::Bar, order)
     }
@@ -235,8 +241,10 @@ impl<L: Link> Engine<L> {
 
     // Hands out the oldest waiting report.
     pub fn take(&mut self) -> Result<Report, Refusal>
-        ensures { Does Take (state L.Link.view self.old) (took result) (state L.Link.view self.new) }
+        ensures does { Does Take (state L.Link.view self.old) (took result) (state L.Link.view self.new) }
+        ensures leaves { OnErr result (self.new ≡ self.old) }
     {
+        // A link of the host's own may note that it refused: it is not asked where nothing waits.
         if !self.link.has_waiting() {
             return Err(Refusal::NothingWaits);
         }
@@ -248,8 +256,7 @@ impl<L: Link> Engine<L> {
 fn hand_on<L: Link>(link: &mut L, report: Option<Report>)
     ensures { Hands (L.Link.view link.old) report (L.Link.view link.new) }
 {
-    let Some(report) = report else {
-        return;
-    };
-    let _ = link.send(report);
+    if let Some(report) = report {
+        let _ = link.send(report);
+    }
 }

@@ -2,8 +2,6 @@
 // reports come to.
 #![tactic(auto)]
 
-mod lines_of;
-mod numbers;
 mod play;
 mod say;
 mod script;
@@ -12,41 +10,29 @@ mod words;
 use engine::CallRecord;
 use frame::{FRAME, write};
 use lines::LINE;
-use lines_of::Lines;
-use play::{Script, play, read_script};
+use play::{Played, Script, play, read_script};
 use report::Report;
 use rules::Reply;
-use say::{say_reply, say_words};
-use script::{Line, line_of};
+use say::Said;
+use script::Entry;
 use std::io;
 use std::io::{BufWriter, Read, Write};
 use stream::Tally;
 
-// Prints each call with its reply, up to the line that is not understood.
-fn say_calls<W: Write>(out: &mut W, text: &[u8], script: &Script) -> io::Result<()> {
-    let mut lines = Lines::of(text);
-    let mut replies = script.records.iter();
-    let mut number = 0u64;
-    while let Some(line) = lines.next() {
-        number = number.saturating_add(1);
-        if script.bad_line == Some(number) {
-            return writeln!(out, "line {number}: not understood");
+// Prints each call with its reply, and then the line that is not understood.
+fn say_calls<W: Write>(out: &mut W, script: &Script, records: &[CallRecord]) -> io::Result<()> {
+    let mut replies = records.iter().map(|record| record.reply);
+    for Entry { words, call } in &script.entries {
+        let reply = match call {
+            Ok(_) => replies.next(),
+            Err(refusal) => Some(Reply::Refused(*refusal)),
+        };
+        if let Some(reply) = reply {
+            writeln!(out, "{words}: {}", Said(reply))?;
         }
-        match line_of(line) {
-            Line::Call(_) => {
-                let Some(record) = replies.next() else {
-                    return Ok(());
-                };
-                say_words(out, line)?;
-                out.write_all(b": ")?;
-                say_reply(out, &record.reply)?;
-            }
-            Line::NoBursts => {
-                say_words(out, line)?;
-                out.write_all(b": refused 2\n")?;
-            }
-            _ => {}
-        }
+    }
+    if let Some(number) = script.bad_line {
+        writeln!(out, "line {number}: not understood")?;
     }
     Ok(())
 }
@@ -60,20 +46,22 @@ fn say_account<W: Write>(out: &mut W, tally: &mut Tally, report: &Report) -> io:
     }
     if let Some(end) = tally.tell_block(&frame, &mut page) {
         out.write_all(b"account ")?;
-        out.write_all(&page[0..end])?;
+        out.write_all(&page[..end])?;
     }
     Ok(())
 }
 
 // Prints the accounts of the reports taken, then of those that still wait.
-fn say_accounts<W: Write>(out: &mut W, records: &[CallRecord], left: &[Report]) -> io::Result<()> {
+fn say_accounts<W: Write>(out: &mut W, played: &Played) -> io::Result<()> {
+    let taken = played
+        .records
+        .iter()
+        .filter_map(|record| match &record.reply {
+            Reply::Took(report) => Some(report),
+            _ => None,
+        });
     let mut tally = Tally::new();
-    for record in records {
-        if let Reply::Took(report) = record.reply {
-            say_account(out, &mut tally, &report)?;
-        }
-    }
-    for report in left {
+    for report in taken.chain(&played.left) {
         say_account(out, &mut tally, report)?;
     }
     Ok(())
@@ -82,11 +70,11 @@ fn say_accounts<W: Write>(out: &mut W, records: &[CallRecord], left: &[Report]) 
 fn run(rt: &HostRuntime) -> anyhow::Result<()> {
     let mut text = Vec::new(rt.alloc());
     rt.stdin().read_to_end(&mut text)?;
-    let mut script = read_script(rt.alloc(), &text)?;
-    let left = play(rt.alloc(), &mut script)?;
+    let script = read_script(rt.alloc(), &text)?;
+    let played = play(rt.alloc(), &script)?;
     let mut out = BufWriter::new(rt.alloc(), rt.stdout())?;
-    say_calls(&mut out, &text, &script)?;
-    say_accounts(&mut out, &script.records, &left)?;
+    say_calls(&mut out, &script, &played.records)?;
+    say_accounts(&mut out, &played)?;
     out.flush()?;
     Ok(())
 }

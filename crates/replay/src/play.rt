@@ -1,103 +1,63 @@
 // A script read, and played through a whole run over the link that it asks for.
 ghost use Rattle.std.specs.Prelude.{length};
 
-use crate::lines_of::Lines;
-use crate::script::{Line, Pile, line_of};
+use crate::script::{Entry, Line, Pile, Ring, line_of};
 use engine::{CallRecord, run};
 use frame::FRAME;
 use frame_ring::FrameRing;
 use link::Link;
-use report::{Address, Elapsed, Refusal, Report, Standing};
+use report::{Refusal, Report};
 use reserve::Reserve;
 use ring::Fifo;
-use rules::{Call, Reply};
+use rules::Reply;
 use std::alloc::{AllocError, Global};
 
 // The settings and the calls of a script, up to a line that is not understood.
 #[derive(Drop)]
-pub struct Script {
-    pub wait: u32,
-    pub pile: Pile,
-    pub records: Vec<CallRecord>,
+pub struct Script<'a> {
+    pub wait: Option<u32>,
+    pub pile: Option<Pile>,
+    pub entries: Vec<Entry<'a>>,
     pub bad_line: Option<u64>,
 }
 
-// Which settings stand before the calls.
-#[derive(Clone, Copy)]
-struct Settings {
-    wait: Option<u32>,
-    pile: Option<Pile>,
-    over: bool,
+// What a script's calls came to: each call with its reply, and the reports that still wait at the end.
+#[derive(Drop)]
+pub struct Played {
+    pub records: Vec<CallRecord>,
+    pub left: Vec<Report>,
 }
 
-// Takes a setting in, or says that it does not belong there.
-fn set(settings: Settings, line: Line) -> Option<Settings> {
-    if settings.over {
-        return None;
-    }
-    match line {
-        Line::Wait(wait) if settings.wait.is_none() => Some(Settings {
-            wait: Some(wait),
-            ..settings
-        }),
-        Line::Link(pile) if settings.pile.is_none() => Some(Settings {
-            pile: Some(pile),
-            ..settings
-        }),
-        _ => None,
-    }
-}
+const USUAL_WAIT: u32 = 50;
 
-const BLANK: Report = Report {
-    address: Address { kind: 0, number: 0 },
-    number: 0,
-    party: 0,
-    tick: 0,
-    standing: Standing::Ended,
-    elapsed: Elapsed::Plain(0),
+const USUAL_PILE: Pile = Pile {
+    ring: Ring::Records,
+    places: 16,
+    reserves: 0,
 };
 
-pub(crate) fn read_script(heap: Global, text: &[u8]) -> Result<Script, AllocError> {
-    let mut settings = Settings {
+// Each setting may stand once, before the calls.
+pub(crate) fn read_script(heap: Global, text: &[u8]) -> Result<Script<'_>, AllocError> {
+    let mut script = Script {
         wait: None,
         pile: None,
-        over: false,
+        entries: Vec::new(heap),
+        bad_line: None,
     };
-    let mut records = Vec::new(heap);
-    let mut bad_line = None;
-    let mut lines = Lines::of(text);
-    let mut number = 0u64;
-    while let Some(line) = lines.next() {
-        number = number.saturating_add(1);
+    for (number, line) in (1u64..).zip(text.split(|b| *b == b'\n')) {
+        let no_call = script.entries.is_empty();
         match line_of(line) {
-            Line::Blank => {}
-            Line::Call(call) => {
-                settings.over = true;
-                records.push(CallRecord {
-                    call,
-                    reply: Reply::Refused(Refusal::Untimely),
-                })?;
+            Some(Line::Blank) => {}
+            Some(Line::Wait(wait)) if no_call && script.wait.is_none() => script.wait = Some(wait),
+            Some(Line::Link(pile)) if no_call && script.pile.is_none() => script.pile = Some(pile),
+            Some(Line::Call(entry)) => script.entries.push(entry)?,
+            Some(Line::Wait(_) | Line::Link(_)) | None => {
+                script.bad_line = Some(number);
+                break;
             }
-            Line::NoBursts => settings.over = true,
-            said => match set(settings, said) {
-                Some(more) => settings = more,
-                None => {
-                    bad_line = Some(number);
-                    break;
-                }
-            },
         }
     }
-    Ok(Script {
-        wait: settings.wait.unwrap_or(50),
-        pile: settings.pile.unwrap_or(Pile {
-            frames: false,
-            places: 16,
-            reserves: 0,
-        }),
-        records,
-        bad_line,
-    })
+    Ok(script)
 }
 
 // Plays the calls over a link, and takes out the reports that wait at the end.
@@ -114,6 +74,7 @@ fn play_over<L: Link + Drop>(
     Ok(())
 }
 
+// The number of reserves is part of the link's type, and no `dyn Link` may be handed out: a branch each.
 fn play_under<L: Link + Drop>(
     wait: u32,
     link: L,
@@ -128,28 +89,35 @@ fn play_under<L: Link + Drop>(
     }
 }
 
-// Plays a script's calls over the link that it asks for; the reports that still wait at the end.
-pub(crate) fn play(heap: Global, script: &mut Script) -> Result<Vec<Report>, AllocError> {
+// Plays a script's calls over the link that it asks for.
+pub(crate) fn play(heap: Global, script: &Script) -> Result<Played, AllocError> {
+    let wait = script.wait.unwrap_or(USUAL_WAIT);
+    let Pile {
+        ring,
+        places,
+        reserves,
+    } = script.pile.unwrap_or(USUAL_PILE);
+    let mut records: Vec<CallRecord> = script
+        .entries
+        .iter()
+        .filter_map(|entry| entry.call.ok())
+        .map(|call| CallRecord {
+            call,
+            reply: Reply::Refused(Refusal::Untimely),
+        })
+        .collect(heap)?;
     let mut left = Vec::new(heap);
-    let pile = script.pile;
-    if pile.frames {
-        let mut bytes = vec![in heap; 0u8; pile.places.saturating_mul(FRAME)]?;
-        play_under(
-            script.wait,
-            FrameRing::new(&mut bytes),
-            pile.reserves,
-            &mut script.records,
-            &mut left,
-        )?;
-    } else {
-        let mut memory = vec![in heap; BLANK; pile.places]?;
-        play_under(
-            script.wait,
-            Fifo::new(&mut memory),
-            pile.reserves,
-            &mut script.records,
-            &mut left,
-        )?;
+    match ring {
+        Ring::Records => {
+            let mut memory = vec![in heap; Report::BLANK; places]?;
+            let link = Fifo::new(&mut memory);
+            play_under(wait, link, reserves, &mut records, &mut left)?;
+        }
+        Ring::Frames => {
+            let mut bytes = vec![in heap; 0u8; places.saturating_mul(FRAME)]?;
+            let link = FrameRing::new(&mut bytes);
+            play_under(wait, link, reserves, &mut records, &mut left)?;
+        }
     }
-    Ok(left)
+    Ok(Played { records, left })
 }

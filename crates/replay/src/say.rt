@@ -1,94 +1,110 @@
-// What a call answered, as a line.
-use crate::words::Words;
+// What a call answered, as text.
+use bursts::BurstNumbers;
 use report::{Address, Elapsed, Report, Standing};
 use rules::{EValues, Order, OrderKind, Reply};
-use std::io;
-use std::io::Write;
+use std::fmt;
 
-// The words of a line, a space apart, without its comment.
-pub(crate) fn say_words<W: Write>(out: &mut W, line: &[u8]) -> io::Result<()> {
-    let mut words = Words::of(line);
-    let Some(first) = words.next() else {
-        return Ok(());
-    };
-    out.write_all(first)?;
-    while let Some(word) = words.next() {
-        out.write_all(b" ")?;
-        out.write_all(word)?;
+// A value of a crate below, to be printed as `replay` does.
+#[derive(Clone, Copy)]
+pub struct Said<T>(pub T);
+
+impl fmt::Display for Said<Reply> {
+    fn fmt<W: fmt::Write>(&self, f: &mut fmt::Formatter<W>) -> fmt::Result {
+        match self.0 {
+            Reply::Refused(refusal) => write!(f, "refused {}", refusal.number()),
+            Reply::Done(order) => write!(f, "{}", Said(order)),
+            Reply::Took(report) => write!(f, "{}", Said(report)),
+        }
     }
-    Ok(())
 }
 
-pub(crate) fn say_reply<W: Write>(out: &mut W, reply: &Reply) -> io::Result<()> {
-    match reply {
-        Reply::Refused(refusal) => {
-            let number = refusal.number();
-            writeln!(out, "refused {number}")
-        }
-        Reply::Done(order) => say_order(out, order),
-        Reply::Took(report) => say_report(out, report),
+impl fmt::Display for Said<Address> {
+    fn fmt<W: fmt::Write>(&self, f: &mut fmt::Formatter<W>) -> fmt::Result {
+        write!(f, "{}.{}", self.0.kind, self.0.number)
     }
 }
 
-fn say_address<W: Write>(out: &mut W, word: &str, address: Address) -> io::Result<()> {
-    let kind = address.kind;
-    let number = address.number;
-    write!(out, "{word} {kind}.{number}")
-}
-
-fn say_order<W: Write>(out: &mut W, order: &Order) -> io::Result<()> {
-    match order.kind {
-        OrderKind::Ended => say_address(out, "ended", order.address)?,
-        OrderKind::Nothing => say_address(out, "nothing", order.address)?,
-        OrderKind::Advise(set) => {
-            say_address(out, "advise", order.address)?;
-            say_values(out, &set)?;
-        }
-        OrderKind::Sound(list) => {
-            say_address(out, "sound", order.address)?;
-            let n = list.numbers();
-            let warning = n.warning;
-            let bursts = n.bursts;
-            let tones = n.tones;
-            let gap = n.gap;
-            let tone = n.tone;
-            let pause = n.pause;
-            write!(out, " {warning} {bursts} {tones} {gap} {tone} {pause}")?;
+impl fmt::Display for Said<Order> {
+    fn fmt<W: fmt::Write>(&self, f: &mut fmt::Formatter<W>) -> fmt::Result {
+        let address = Said(self.0.address);
+        match self.0.kind {
+            OrderKind::Ended => write!(f, "ended {address}"),
+            OrderKind::Nothing => write!(f, "nothing {address}"),
+            OrderKind::Advise(set) => write!(f, "advise {address}{}", Said(set)),
+            OrderKind::Sound(list) => write!(f, "sound {address} {}", Said(list.numbers())),
         }
     }
-    out.write_all(b"\n")
 }
 
-fn say_values<W: Write>(out: &mut W, set: &EValues) -> io::Result<()> {
-    for value in set.values {
-        match value {
-            Some(v) => write!(out, " {v}")?,
-            None => out.write_all(b" -")?,
+// A space and a number each, or a dash where it is absent.
+impl fmt::Display for Said<EValues> {
+    fn fmt<W: fmt::Write>(&self, f: &mut fmt::Formatter<W>) -> fmt::Result {
+        for value in self.0.values {
+            match value {
+                Some(number) => write!(f, " {number}")?,
+                None => f.write_str(" -")?,
+            }
+        }
+        Ok(())
+    }
+}
+
+impl fmt::Display for Said<BurstNumbers> {
+    fn fmt<W: fmt::Write>(&self, f: &mut fmt::Formatter<W>) -> fmt::Result {
+        let BurstNumbers {
+            warning,
+            bursts,
+            tones,
+            gap,
+            tone,
+            pause,
+        } = self.0;
+        write!(f, "{warning} {bursts} {tones} {gap} {tone} {pause}")
+    }
+}
+
+impl fmt::Display for Said<Standing> {
+    fn fmt<W: fmt::Write>(&self, f: &mut fmt::Formatter<W>) -> fmt::Result {
+        f.write_str(match self.0 {
+            Standing::Active => "active",
+            Standing::Ended => "last",
+            Standing::Released => "released",
+        })
+    }
+}
+
+impl fmt::Display for Said<Elapsed> {
+    fn fmt<W: fmt::Write>(&self, f: &mut fmt::Formatter<W>) -> fmt::Result {
+        match self.0 {
+            Elapsed::Plain(time) => write!(f, "plain time {time}"),
+            Elapsed::Switched {
+                time,
+                interval: None,
+            } => write!(f, "switch time {time}"),
+            Elapsed::Switched {
+                time,
+                interval: Some(interval),
+            } => write!(f, "switch time {time} interval {interval}"),
         }
     }
-    Ok(())
 }
 
-fn say_report<W: Write>(out: &mut W, report: &Report) -> io::Result<()> {
-    say_address(out, "report", report.address)?;
-    let number = report.number;
-    let party = report.party;
-    let tick = report.tick;
-    let standing = match report.standing {
-        Standing::Active => "active",
-        Standing::Ended => "last",
-        Standing::Released => "released",
-    };
-    write!(out, " #{number} party {party} tick {tick} {standing} ")?;
-    match report.elapsed {
-        Elapsed::Plain(time) => writeln!(out, "plain time {time}"),
-        Elapsed::Switched {
-            time,
-            interval: None,
-        } => writeln!(out, "switch time {time}"),
-        Elapsed::Switched {
-            time,
-            interval: Some(interval),
-        } => writeln!(out, "switch time {time} interval {interval}"),
+impl fmt::Display for Said<Report> {
+    fn fmt<W: fmt::Write>(&self, f: &mut fmt::Formatter<W>) -> fmt::Result {
+        let Report {
+            address,
+            number,
+            party,
+            tick,
+            standing,
+            elapsed,
+        } = self.0;
+        write!(
+            f,
+            "report {} #{number} party {party} tick {tick} {} {}",
+            Said(address),
+            Said(standing),
+            Said(elapsed)
+        )
     }
 }

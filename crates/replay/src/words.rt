@@ -1,55 +1,104 @@
-// The words of a line, a run of spaces or tabs apart, up to a comment.
-ghost use Rattle.std.specs.Prelude.{◌≡◌, ◌<◌, ◌≤◌, length, OnSome};
+// The words of a line, and the numbers and addresses that they may be.
+ghost use Rattle.std.specs.Prelude.{length};
+ghost use Rattle.std.specs.Iterator.{at_most};
 
-#[derive(Drop)]
+use report::Address;
+use std::str::FromStr;
+use std::{fmt, str};
+
+// What parts words, in a run of any length.
+const BLANKS: [char; 2] = [' ', '\t'];
+
+// The words of a line that are still to be read.
+#[derive(Clone, Copy)]
 pub struct Words<'a> {
-    rest: &'a [u8],
+    rest: &'a str,
 }
 
-// How many bytes at the front of some are blank, or are not.
-fn run_of(bytes: &[u8], blank: bool) -> usize
-    ensures { result ≤ length bytes.now }
-{
-    for (n, b) in bytes.iter().enumerate() {
-        if is_blank(*b) != blank {
-            return n;
+impl<'a> Iterator for Words<'a> {
+    type Item = &'a str;
+
+    ghost remaining = { λ s. at_most (length s.rest.now) };
+
+    fn next(&mut self) -> Option<&'a str> {
+        let rest = self.rest.trim_start_matches(BLANKS);
+        if rest.is_empty() {
+            return None;
         }
+        let (word, rest) = rest.split_once(BLANKS).unwrap_or((rest, ""));
+        self.rest = rest;
+        Some(word)
     }
-    bytes.len()
-}
-
-fn is_blank(b: u8) -> bool {
-    b == b' ' || b == b'\t'
-}
-
-// The bytes of a line before its comment.
-fn before_comment(line: &[u8]) -> &[u8] {
-    for (n, b) in line.iter().enumerate() {
-        if *b == b'#' {
-            return &line[0..n];
-        }
-    }
-    line
 }
 
 impl<'a> Words<'a> {
-    pub(crate) fn of(line: &'a [u8]) -> Words<'a> {
-        Words {
-            rest: before_comment(line),
+    // The words before a line's comment, if they are text.
+    pub(crate) fn of(line: &'a [u8]) -> Option<Words<'a>> {
+        let before_comment = line.split(|b| *b == b'#').next()?;
+        let rest = str::from_utf8(before_comment).ok()?;
+        Some(Words { rest })
+    }
+
+    // Takes the next word if it is this one.
+    pub(crate) fn takes(&mut self, word: &str) -> bool {
+        let mut ahead = *self;
+        let is_next = ahead.next() == Some(word);
+        if is_next {
+            *self = ahead;
+        }
+        is_next
+    }
+
+    pub(crate) fn number<T: FromStr>(&mut self) -> Option<T>
+    where
+        T::Err: Drop,
+    {
+        digits(self.next()?)
+    }
+
+    // The number after this word.
+    pub(crate) fn number_after<T: FromStr>(&mut self, word: &str) -> Option<T>
+    where
+        T::Err: Drop,
+    {
+        if self.takes(word) {
+            self.number()
+        } else {
+            None
         }
     }
 
-    // The next word, if there is one.
-    pub(crate) fn next(&mut self) -> Option<&'a [u8]>
-        ensures { OnSome result (length self.new.rest.now < length self.old.rest.now) }
-    {
-        let start = run_of(self.rest, true);
-        let (_, word) = self.rest.split_at(start);
-        if word.is_empty() {
-            return None;
+    // A kind, a point and a number.
+    pub(crate) fn address(&mut self) -> Option<Address> {
+        let (kind, number) = self.next()?.split_once('.')?;
+        Some(Address {
+            kind: digits(kind)?,
+            number: digits(number)?,
+        })
+    }
+}
+
+// A decimal number that fits its type. `parse` alone would take a sign.
+fn digits<T: FromStr>(word: &str) -> Option<T>
+where
+    T::Err: Drop,
+{
+    if word.bytes().all(|b| b.is_ascii_digit()) {
+        word.parse().ok()
+    } else {
+        None
+    }
+}
+
+// The words, a space apart.
+impl fmt::Display for Words<'_> {
+    fn fmt<W: fmt::Write>(&self, f: &mut fmt::Formatter<W>) -> fmt::Result {
+        for (n, word) in self.enumerate() {
+            if n > 0 {
+                f.write_str(" ")?;
+            }
+            f.write_str(word)?;
         }
-        let (word, rest) = word.split_at(1 + run_of(&word[1..], false));
-        self.rest = rest;
-        Some(word)
+        Ok(())
     }
 }

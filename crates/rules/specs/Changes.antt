@@ -28,7 +28,7 @@ period_of t i = record { maximum = i.maximum; release = i.release; bursts = i.bu
 
 -- the terms of an open period
 abbrev pub terms_of : Period → Terms
-terms_of p = record { given = p.given; maximum = p.maximum; release = p.release; warning = option_map (λ b. b.warning) p.bursts }
+terms_of p = record { given = p.given; maximum = p.maximum; release = p.release; warning = option_map (λ b. b.numbers.warning) p.bursts }
 
 -- The report that a connection makes as of a tick: one number up, and the time by the answer and the switches counted.
 abbrev pub made : Address → ℕ → Standing → Connection → Report

@@ -16,7 +16,7 @@ pub record Terms : Type 0 where
 
 -- the terms of an instruction at the tick t
 abbrev pub terms : ℕ → Instruction → Terms
-terms t i = record { given = t; maximum = i.maximum; release = i.release; warning = option_map (λ b. b.warning) i.bursts }
+terms t i = record { given = t; maximum = i.maximum; release = i.release; warning = option_map (λ b. b.numbers.warning) i.bursts }
 
 -- After the answer, a period starts at the previous period's end, or at t if there was none.
 abbrev pub period_start : ℕ → Option ℕ → ℕ

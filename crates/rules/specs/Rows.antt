@@ -66,7 +66,7 @@ awaits n (Some r) = r.number == n
 -- a burst list is longer than its warning
 abbrev pub too_long : Option BurstList → Bool
 too_long None = false
-too_long (Some b) = nat_lt (second * b.warning) (sound_length b)
+too_long (Some b) = nat_lt (second * b.numbers.warning) (sound_length b)
 
 -- whether an end of the connection sends a last report
 abbrev pub reports_last : Option Connection → Bool

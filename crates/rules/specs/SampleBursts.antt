@@ -33,16 +33,13 @@ burst_list w b t g n p h =
     let a4 = left_of (within 1 longest_tone n) _ h4 in
     let a5 = right_of (within 1 longest_tone n) _ h4 in
     record {
-      warning = w;
-      bursts = b;
-      tones = t;
-      gap = g;
-      tone = n;
-      pause = p;
-      warns = (lit≤ (left_of (nat_le 1 w) _ a0), lit≤ (right_of (nat_le 1 w) _ a0));
-      few = (lit≤ (left_of (nat_le 1 b) _ a1), lit≤ (right_of (nat_le 1 b) _ a1));
-      short = (lit≤ (left_of (nat_le 1 t) _ a2), lit≤ (right_of (nat_le 1 t) _ a2));
-      apart = (lit≤ (left_of (nat_le 1 g) _ a3), lit≤ (right_of (nat_le 1 g) _ a3));
-      sounds = (lit≤ (left_of (nat_le 1 n) _ a4), lit≤ (right_of (nat_le 1 n) _ a4));
-      rests = (lit≤ (left_of (nat_le 1 p) _ a5), lit≤ (right_of (nat_le 1 p) _ a5));
+      numbers = record { warning = w; bursts = b; tones = t; gap = g; tone = n; pause = p };
+      in_range = record {
+        warning_in = (lit≤ (left_of (nat_le 1 w) _ a0), lit≤ (right_of (nat_le 1 w) _ a0));
+        bursts_in = (lit≤ (left_of (nat_le 1 b) _ a1), lit≤ (right_of (nat_le 1 b) _ a1));
+        tones_in = (lit≤ (left_of (nat_le 1 t) _ a2), lit≤ (right_of (nat_le 1 t) _ a2));
+        gap_in = (lit≤ (left_of (nat_le 1 g) _ a3), lit≤ (right_of (nat_le 1 g) _ a3));
+        tone_in = (lit≤ (left_of (nat_le 1 n) _ a4), lit≤ (right_of (nat_le 1 n) _ a4));
+        pause_in = (lit≤ (left_of (nat_le 1 p) _ a5), lit≤ (right_of (nat_le 1 p) _ a5));
+      };
     }

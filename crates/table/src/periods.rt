@@ -23,7 +23,7 @@ fn end_of(start: u32, p: &Period) -> u32
 
 // The ticks before the period's end at which a sound starts.
 pub(crate) fn warning_of(b: &BurstList) -> u32
-    ensures value { result ≡ second * b.now.warning }
+    ensures value { result ≡ second * b.now.numbers.warning }
     ensures most { result ≤ second * longest_warning }
 {
     SECOND * b.numbers().warning as u32

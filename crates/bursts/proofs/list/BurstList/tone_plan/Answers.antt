@@ -1,26 +1,23 @@
-use Rattle.std.proofs.Common.{◌≡◌, ◌*◌, ◌≤◌, ◌++◌, drop, refl, ap, ◌∙◌, subst, add-mul, mul-le-mul, arith}
-use Rattle.bursts.specs.Plan.{plan}
-use Rattle.bursts.proofs.Steps.{burst_more, burst_rest, plan_all}
+use Rattle.std.proofs.Common.{◌≡◌, ◌++◌, take, drop, length, sym, refl, ap, ◌∙◌, mul-le-mul, arith}
+use Rattle.std.proofs.lemmas.List.{take_all, take_more_set, length-take-le}
+use Rattle.bursts.specs.Plan.{plan, tone_count}
+use Rattle.bursts.proofs.Steps.{first_tones, first_tones-more, first_tones-all}
 use Rattle.bursts.proofs.list.BurstList.tone_plan.Goals as goal
 
-pub loop-j-preserved : goal.loop-j-preserved
-loop-j-preserved c =
-    let b = c.args.self.now in
-    let at = c.loop-j.at in (
-      burst_more b at c.loop-j.j _ _ c.write_burst.ensures.wrote c.loop-j.invariant.0,
-      burst_rest at b.tones _ _ _ c.write_burst.ensures.rest c.loop-j.invariant.1,
-      omega (arith, add-mul c.loop-j.j 1 b.tones, c.loop-j.invariant.2),
-    )
+pub loop-n-preserved : goal.loop-n-preserved
+loop-n-preserved c =
+    let l = c.loop-n in
+    cc (take_more_set l.tone-items l.n c.tone_at.result (omega arith), first_tones-more c.args.self.now l.n)
 
 pub returns : goal.returns
 returns c =
     let b = c.args.self.now in
-    let all : c.loop-j.j ≡ b.bursts = omega arith in
-    let at : c.loop-j.at ≡ b.bursts * b.tones = c.loop-j.invariant.2 ∙ ap (λ z. z * b.tones) all in
-    let few : b.bursts * b.tones ≤ 3 * 3 = mul-le-mul b.few.1 b.short.1 in
+    let l = c.loop-n in
+    let front : length (take (tone_count b) c.args.place.now) ≡ tone_count b = length-take-le _ _ (omega arith) in
+    let written : l.tone-items ≡ plan b = sym (take_all l.n l.tone-items (omega arith)) ∙ (c.loop-n.invariant ∙ (ap (first_tones b) (omega arith) ∙ first_tones-all b)) in
     record {
       count = refl;
-      few = few;
+      few = mul-le-mul b.in_range.bursts_in.1 b.in_range.tones_in.1;
       long_enough = omega arith;
-      place = subst (λ z. c.loop-j.place ≡ plan b ++ drop z c.args.place.now) at (plan_all b c.loop-j.at c.loop-j.j _ _ all c.loop-j.invariant.0 c.loop-j.invariant.1);
+      place = ap (λ xs. xs ++ drop (tone_count b) c.args.place.now) written;
     }

@@ -1,9 +1,6 @@
-use Rattle.std.proofs.Common.{◌≡◌, ◌*◌, take, drop}
-use Rattle.bursts.specs.Plan.{bursts_of}
+use Rattle.std.proofs.Common.{◌≡◌, take}
+use Rattle.bursts.proofs.Steps.{first_tones}
 use Rattle.bursts.proofs.list.BurstList.tone_plan.Given as goal
 
-abbrev pub invariant-loop-j : goal.invariant-loop-j
-invariant-loop-j l =
-    (take l.at l.place ≡ bursts_of l.self l.j)
-    × (drop l.at l.place ≡ drop l.at l.initial.place)
-    × (l.at ≡ l.j * l.self.tones)
+abbrev pub invariant-loop-n : goal.invariant-loop-n
+invariant-loop-n l = take l.n l.tone-items ≡ first_tones l.self l.n
