@@ -1,23 +1,22 @@
 -- A table's calls by the rule: refused, or admitted. Assumes nothing.
-use Rattle.std.proofs.Common.{◌≡◌, ℕ, Bool, true, false, cond, List, [], ◌∷◌, ◌++◌, get_or, is_some, Some, None, Ok, Err, Option, sym, refl, ap, ◌∙◌, subst}
+use Rattle.std.proofs.Common.{◌≡◌, ℕ, ◌<◌, Bool, true, false, cond, List, [], ◌∷◌, ◌++◌, length, get_or, is_some, Some, None, Ok, Err, Option, Result, sym, refl, ap, ◌∙◌, subst, arith}
+use Rattle.std.specs.List.{position}
 use Rattle.report.specs.declared.report.Address.{Address}
 use Rattle.report.specs.declared.refusal.Refusal.{Refusal}
 use Rattle.rules.specs.declared.call.Call.{Call}
 use Rattle.rules.specs.declared.call.Reply.TheVariants.{Done}
-use Rattle.rules.specs.declared.connection.Connection.{Connection}
-use Rattle.rules.specs.Core.{Core}
 use Rattle.rules.specs.Fit.{fit, AllFit, Sendable}
 use Rattle.rules.specs.Reports.{listed}
 use Rattle.rules.specs.Rows.{rows, first}
 use Rattle.rules.specs.Rules.{Ruled, ruled, effect, order, reports}
-use Rattle.invariants.proofs.Basics.{none_some, some_same}
-use Rattle.invariants.proofs.Fitness.{fit_sound, sends_lawful}
+use Rattle.invariants.proofs.Basics.{differ, none_some, some_same}
+use Rattle.invariants.proofs.Fitness.{sends_lawful}
 use Rattle.table.specs.declared.place.Place.{Place}
 use Rattle.table.specs.declared.place.Outcome.{Outcome}
 use Rattle.table.specs.declared.table.Table.{Table}
-use Rattle.table.specs.Places.{index, within, fit_place}
-use Rattle.table.specs.State.{held, core_of, sound_in, FollowsRule}
-use Rattle.table.proofs.Slots.{found, find_some, index_holds, held_at}
+use Rattle.table.specs.Places.{holds, within, find, standing, fit_place}
+use Rattle.table.specs.State.{held, core_of, admitted, FollowsRule}
+use Rattle.table.proofs.Slots.{index, placed, not_placed, found, find_some, find_none, index_holds, held_at}
 
 -- rows before others
 pub first_before : (xs ys : List (Bool × Refusal)) (e : Refusal) → first xs ≡ Some e → first (xs ++ ys) ≡ Some e
@@ -44,15 +43,37 @@ all_fit clock w ss h a c e =
     let is : q.0.connection ≡ c = some_same (sym (ap within q.1) ∙ (sym (find_some ss a l) ∙ e)) in
     ap (fit clock a) (sym is) ∙ (ap (λ b. fit clock b q.0.connection) (sym q.2) ∙ (sym (ap (fit_place clock) q.1) ∙ h (index ss a)))
 
-pub sound_there : (s : Core) (a : Address) (o : Option Connection) → AllFit s → s.at a ≡ o → sound_in o ≡ true
-sound_there s a None g e = refl
-sound_there s a (Some c) g e = fit_sound s.clock a c (g a c e)
+-- what an admitting or refusing function returned
+pub let_in : {X : Type 0} (x y : X) (r : Option Refusal) → Ok y ≡ admitted x r → (r ≡ None) × (y ≡ x)
+let_in x y None e = (refl, cc)
+let_in x y (Some f) e = absurd (differ cc)
+
+pub kept_out : {X : Type 0} (x : X) (f : Refusal) (r : Option Refusal) → Err f ≡ admitted x r → r ≡ Some f
+kept_out x f None e = absurd (differ cc)
+kept_out x f (Some g) e = cc
+
+-- a place that is read at an address
+pub record Read (ss : List (Option Place)) (a : Address) (o : Option Place) : Type 0 where
+  pub same : within o ≡ find ss a
+  pub at : (p : Place) → o ≡ Some p → p.address ≡ a
+
+pub read : (ss : List (Option Place)) (a : Address) (i : Option ℕ) (o : Option Place) → i ≡ position (holds a) ss → o ≡ standing ss i → Read ss a o
+read ss a None o e h = record { same = ap within h ∙ sym (find_none ss a (not_placed (holds a) ss (sym e))); at = λ p q. absurd (none_some (sym h ∙ q)) }
+read ss a (Some i) o e h =
+    let there = placed (holds a) ss i (sym e) in
+    let lt : index ss a < length ss = omega arith in
+    let is : o ≡ get_or ss (index ss a) None = h ∙ ap (λ n. get_or ss n None) there.0 in
+    let q = held_at (get_or ss (index ss a) None) a (index_holds ss a lt) in
+    record {
+      same = ap within is ∙ sym (find_some ss a lt);
+      at = λ p r. ap (λ (p : Place). p.address) (some_same (sym r ∙ (is ∙ q.1))) ∙ q.2;
+    }
 
 -- a refused call
-pub refuses : (room : Bool) (call : Call) (t : Table) (e : Refusal) → first (rows room call (core_of t)) ≡ Some e → FollowsRule room call t (Err e) t
-refuses room call t e q =
+pub refuses : (room : Bool) (call : Call) (t : Table) (r : Result Outcome Refusal) (e : Refusal) → r ≡ Err e → first (rows room call (core_of t)) ≡ Some e → FollowsRule room call t r t
+refuses room call t r e is q =
     let k = ap (ruled call (core_of t)) q in
-    record { core = sym (ap (λ (r : Ruled). r.core) k); reply = sym (ap (λ (r : Ruled). r.reply) k); sent = sym (ap (λ (r : Ruled). r.sent) k); sendable = tt; unaltered = refl }
+    rw is (record { core = sym (ap (λ (r : Ruled). r.core) k); reply = sym (ap (λ (r : Ruled). r.reply) k); sent = sym (ap (λ (r : Ruled). r.sent) k); sendable = tt; unaltered = refl })
 
 -- an admitted call
 pub admits : (room : Bool) (call : Call) (t t' : Table) (x : Outcome) → first (rows room call (core_of t)) ≡ None → core_of t' ≡ effect call (core_of t) → x.order ≡ order call (core_of t) → listed x.report ≡ reports call (core_of t) → FollowsRule room call t (Ok x) t'

@@ -1,10 +1,11 @@
 -- An operation by the rules. Assumes nothing.
 use Rattle.std.proofs.Common.{◌≡◌, ℕ, ◌≤◌, Bool, true, false, cond, not, ◌&&◌, [], ◌∷◌, is_some, Some, None, Option, sym, refl, ap, ◌∙◌}
+use Rattle.std.specs.Option.{MatchOption}
 use Rattle.report.specs.declared.report.Address.{Address}
+use Rattle.report.specs.declared.report.Report.{Report}
 use Rattle.report.specs.declared.refusal.Refusal.{Refusal}
 use Rattle.report.specs.declared.refusal.Refusal.TheVariants.{NoConnection, WrongStage, NoFreePlace}
 use Rattle.report.specs.Lawful.{lawful_address}
-use Rattle.report.specs.Limits.{last_tick}
 use Rattle.report.proofs.Addresses.{same_self}
 use Rattle.rules.specs.declared.call.Operation.{Operation}
 use Rattle.rules.specs.declared.call.Operation.TheVariants.{SetUp, Continue, Bar, Instruct, Advise, Answer, Disconnect, Confirm, Repeat}
@@ -16,12 +17,15 @@ use Rattle.rules.specs.Fit.{fit_in, AllFit}
 use Rattle.rules.specs.Limits.{connections}
 use Rattle.rules.specs.Orders.{stage_in}
 use Rattle.rules.specs.Ranges.{fits}
-use Rattle.rules.specs.Reports.{awaited}
+use Rattle.rules.specs.Reports.{listed, awaited, by_operation_sent}
 use Rattle.rules.specs.Rows.{consulting, reports_last, operation_rows, rows, first}
-use Rattle.invariants.proofs.Basics.{none_some, and_right, not_not, less_of, in_range, not_early}
+use Rattle.rules.specs.Rules.{effect}
+use Rattle.invariants.proofs.Basics.{none_some, and_right, not_not, less_of, not_early}
 use Rattle.invariants.proofs.Clear.{Clear, clear}
 use Rattle.invariants.proofs.Fitness.{stays_fit}
-use Rattle.table.specs.State.{heads, RoomFor}
+use Rattle.table.specs.declared.place.Place.{Place}
+use Rattle.table.specs.Places.{within}
+use Rattle.table.specs.State.{heads, moved, RoomFor}
 use Rattle.table.proofs.Following.{first_before, first_after}
 
 -- rows that end with a place's, with room
@@ -62,24 +66,51 @@ module _ (room : Bool) (t : ℕ) (a : Address) (x : Operation) (s : Core) where
   pub refused_early : (e : Refusal) → first (heads t a (fits x) s) ≡ Some e → first (rows room (On t a x) s) ≡ Some e
   refused_early e h = first_before (heads t a (fits x) s) (operation_rows room x (s.at a) s.count) e h
 
-  module _ (passed : first (heads t a (fits x) s) ≡ None) where
+  -- past those rows, at the connection o that may be at the address
+  module _ (passed : first (heads t a (fits x) s) ≡ None) (o : Option Connection) (same : o ≡ s.at a) where
     -- then its own rows decide
-    pub by_rows : (r : Option Refusal) → first (operation_rows room x (s.at a) s.count) ≡ r → first (rows room (On t a x) s) ≡ r
-    by_rows r h = first_after (heads t a (fits x) s) (operation_rows room x (s.at a) s.count) passed ∙ h
+    pub by_rows : (r : Option Refusal) → first (operation_rows room x o s.count) ≡ r → first (rows room (On t a x) s) ≡ r
+    by_rows r h = first_after (heads t a (fits x) s) (operation_rows room x (s.at a) s.count) passed ∙ (ap (λ o. first (operation_rows room x o s.count)) (sym same) ∙ h)
 
     heads_clear : Clear (heads t a (fits x) s)
     heads_clear = clear (heads t a (fits x) s) passed
 
-    pub in_time : t ≤ last_tick
-    in_time = in_range t s.clock heads_clear.0
-
-    pub on_time : s.clock ≤ t
-    on_time = not_early t s.clock heads_clear.0
-
     pub fitting : fits x ≡ true
     fitting = and_right (lawful_address a) (fits x) (not_not (lawful_address a && fits x) heads_clear.1.0)
 
-    -- an admitted operation leaves a fit connection
-    pub fit_next : (next : Option Connection) → first (operation_rows room x (s.at a) s.count) ≡ None → AllFit s → by_operation x t (s.at a) ≡ next → fit_in t a next ≡ true
-    fit_next None h g q = refl
-    fit_next (Some c) h g q = stays_fit.ever_after room (On t a x) s (by_rows None h) g a c (ap (λ b. cond b (by_operation x t (s.at a)) (s.at a)) (same_self a) ∙ q)
+    -- past its own rows too: what becomes of the connection
+    module _ (pass : first (operation_rows room x o s.count) ≡ None) (now : ℕ) (is : now ≡ t) (next : Option Connection) (n : next ≡ by_operation x now o) where
+      next_is : by_operation x t (s.at a) ≡ next
+      next_is = ap (λ t. by_operation x t (s.at a)) (sym is) ∙ (ap (by_operation x now) (sym same) ∙ sym n)
+
+      pub on_time : s.clock ≤ now
+      on_time = rw is (not_early t s.clock heads_clear.0)
+
+      pub fit_next : AllFit s → fit_in now a next ≡ true
+      fit_next g = rw is (by next next_is)
+        where
+          by : (next : Option Connection) → by_operation x t (s.at a) ≡ next → fit_in t a next ≡ true
+          by None q = refl
+          by (Some c) q = stays_fit.ever_after room (On t a x) s (by_rows None pass) g a c (ap (λ b. cond b (by_operation x t (s.at a)) (s.at a)) (same_self a) ∙ q)
+
+      pub room_next : RoomFor (is_some (s.at a)) s.count next
+      room_next = room_for room x t (s.at a) next s.count (ap (λ o. first (operation_rows room x o s.count)) (sym same) ∙ pass) next_is
+
+      pub effect_is : moved now a next s ≡ effect (On t a x) s
+      effect_is = ap (λ o. moved now a o s) (sym next_is) ∙ ap (λ t'. moved t' a (by_operation x t (s.at a)) s) is
+
+-- what an operation sends, from the place with its connection
+pub sends_there : (x : Operation) (a : Address) (t : ℕ) (o : Option Place) (r : Option Report) → MatchOption o (r ≡ None) (λ p. listed r ≡ by_operation_sent x p.address t (Some p.connection)) → ((p : Place) → o ≡ Some p → p.address ≡ a) → listed r ≡ by_operation_sent x a t (within o)
+sends_there x a t (Some p) r h at = h ∙ ap (λ b. by_operation_sent x b t (Some p.connection)) (at p refl)
+sends_there x a t None r h at = ap listed h ∙ sym (none_sent x)
+  where
+    none_sent : (x : Operation) → by_operation_sent x a t None ≡ []
+    none_sent SetUp = refl
+    none_sent Continue = refl
+    none_sent Bar = refl
+    none_sent (Instruct i) = refl
+    none_sent (Advise v) = refl
+    none_sent Answer = refl
+    none_sent Disconnect = refl
+    none_sent (Confirm n) = refl
+    none_sent Repeat = refl

@@ -1,15 +1,48 @@
 -- Places found and written. Assumes nothing.
-use Rattle.std.proofs.Common.{◌≡◌, ℕ, zero, suc, ◌+◌, ◌<◌, ◌≤◌, Bool, true, false, cond, not, ◌&&◌, ◌⊎◌, List, [], ◌∷◌, length, get_or, drop, set, is_some, Some, None, Option, sym, refl, ap, ◌∙◌, subst, ⊎_elim, arith}
-use Rattle.std.proofs.lemmas.Bool.Decides.{eqb_tells}
-use Rattle.std.proofs.lemmas.List.{get_or-set_same, get_or-set_other, get_or_past, at_drop_more, at_drop_all}
+use Rattle.std.proofs.Common.{◌≡◌, ℕ, zero, suc, ◌+◌, ◌<◌, ◌≤◌, Bool, true, false, cond, not, ◌&&◌, ltb, List, [], ◌∷◌, length, get_or, set, is_some, Some, None, Option, sym, refl, ap, ◌∙◌, subst, ⊎_elim, arith}
+use Rattle.std.specs.List.{position, position_or_len}
+use Rattle.std.proofs.lemmas.Bool.Decides.{eqb_tells, nat_tests}
+use Rattle.std.proofs.lemmas.List.{get_or-set_same, get_or-set_other}
+use Rattle.std.proofs.lemmas.List.Recursion.{is_position_or_len}
 use Rattle.report.specs.declared.report.Address.{Address}
 use Rattle.report.specs.Lawful.{same}
 use Rattle.rules.specs.declared.connection.Connection.{Connection}
 use Rattle.report.proofs.Addresses.{same_address, same_self}
 use Rattle.invariants.proofs.Fitness.{each_stays_fit}
-use Rattle.invariants.proofs.Basics.{differ, none_some, and_left, and_right}
+use Rattle.invariants.proofs.Basics.{differ, none_some, some_same, and_left, and_right}
 use Rattle.table.specs.declared.place.Place.{Place}
-use Rattle.table.specs.Places.{holds, within, find, first_where, index, vacancy, used, alone, distinct, fit_place}
+use Rattle.table.specs.Places.{holds, within, find, is_free, used, alone, distinct, fit_place}
+
+-- the first place for which the test holds, or the number of places where there is none
+abbrev pub first_where : (Option Place → Bool) → List (Option Place) → ℕ
+first_where test [] = 0
+first_where test (s ∷ ss) = cond (test s) 0 (suc (first_where test ss))
+
+-- the place of an address
+abbrev pub index : List (Option Place) → Address → ℕ
+index ss a = first_where (holds a) ss
+
+-- the first free place
+abbrev pub vacancy : List (Option Place) → ℕ
+vacancy ss = first_where is_free ss
+
+-- the library's words for it
+pub is_first : (test : Option Place → Bool) (ss : List (Option Place)) → first_where test ss ≡ position_or_len test ss
+is_first test ss = is_position_or_len (first_where test) test refl (λ x xs. ap (λ n. cond (test x) 0 n) (omega arith)) ss
+
+pub placed : (test : Option Place → Bool) (ss : List (Option Place)) (i : ℕ) → position test ss ≡ Some i → (i ≡ first_where test ss) × (i < length ss)
+placed test ss i e = by (ltb (position_or_len test ss) (length ss)) refl e
+  where
+    by : (b : Bool) → ltb (position_or_len test ss) (length ss) ≡ b → cond b (Some (position_or_len test ss)) None ≡ Some i → (i ≡ first_where test ss) × (i < length ss)
+    by true q e = let f = is_first test ss in let g = some_same e in let l : position_or_len test ss < length ss = grind (arith, nat_tests) in (omega arith, omega arith)
+    by false q e = absurd (none_some e)
+
+pub not_placed : (test : Option Place → Bool) (ss : List (Option Place)) → position test ss ≡ None → length ss ≤ first_where test ss
+not_placed test ss e = by (ltb (position_or_len test ss) (length ss)) refl e
+  where
+    by : (b : Bool) → ltb (position_or_len test ss) (length ss) ≡ b → cond b (Some (position_or_len test ss)) None ≡ None → length ss ≤ first_where test ss
+    by true q e = absurd (none_some (sym e))
+    by false q e = let f = is_first test ss in let l : length ss ≤ position_or_len test ss = grind (arith, nat_tests) in omega arith
 
 none : {n : ℕ} → suc n ≤ 0 → ⊥
 none h = omega arith
@@ -83,23 +116,6 @@ index_of (s ∷ ss) (suc i) p d h e = go s (holds p.address s) refl (and_left (a
         absurd (differ (ap not (sym v) ∙ al))
     go s false q al f ih = ap suc ih
 
--- a search by place: found, not yet found, and not found
-module _ (test : Option Place → Bool) (ss : List (Option Place)) (i n : ℕ) where
-  pub where_here : (d : Option Place) → i < length ss → test (get_or ss i d) ≡ true → i + first_where test (drop i ss) ≡ n → i ≡ n
-  where_here d lt is h =
-      let e : first_where test (drop i ss) ≡ cond (test (get_or ss i d)) 0 (suc (first_where test (drop (i + 1) ss))) = at_drop_more (first_where test) ss i d lt in
-      let f : cond (test (get_or ss i d)) 0 (suc (first_where test (drop (i + 1) ss))) ≡ 0 = rw is in
-      omega arith
-
-  pub where_next : (d : Option Place) → i < length ss → test (get_or ss i d) ≡ false → i + first_where test (drop i ss) ≡ n → (i + 1) + first_where test (drop (i + 1) ss) ≡ n
-  where_next d lt is h =
-      let e : first_where test (drop i ss) ≡ cond (test (get_or ss i d)) 0 (suc (first_where test (drop (i + 1) ss))) = at_drop_more (first_where test) ss i d lt in
-      let f : cond (test (get_or ss i d)) 0 (suc (first_where test (drop (i + 1) ss))) ≡ suc (first_where test (drop (i + 1) ss)) = rw is in
-      omega arith
-
-  pub where_end : length ss ≤ i → i + first_where test (drop i ss) ≡ n → i ≡ n
-  where_end le h = let e : first_where test (drop i ss) ≡ 0 = at_drop_all (first_where test) ss i le in omega arith
-
 pub found : (ss : List (Option Place)) (a : Address) → is_some (find ss a) ≡ true → index ss a < length ss
 found [] a e = absurd (differ e)
 found (s ∷ ss) a e = go (holds a s) e (found ss a)
@@ -146,10 +162,16 @@ module _ (a : Address) (v : Option Connection) where
       by true e k = let u = same_address q.address a e in absurd (differ (sym p ∙ (ap (λ y. same a y) u ∙ same_self a)))
       by false e k = ap (λ o. not (is_some o)) k ∙ al
 
--- The connection c at the address a, in its place or in the first free one.
-module _ (a : Address) (c : Connection) where
+-- A connection at its address, in its place or in the first free one.
+module _ (new : Place) where
+  abbrev a : Address
+  a = new.address
+
+  abbrev c : Connection
+  c = new.connection
+
   abbrev pub new_one : Option Place
-  new_one = Some (record { address = a; connection = c })
+  new_one = Some new
 
   pub find_change : (ss : List (Option Place)) (x : Address) → index ss a < length ss → find (set ss (index ss a) new_one) x ≡ cond (same x a) (Some c) (find ss x)
   find_change [] x h = absurd (none h)
@@ -258,10 +280,3 @@ fit_set clock t ss n o on lt is h k =
     later : (s : Option Place) → fit_place clock s ≡ true → fit_place t s ≡ true
     later None e = refl
     later (Some p) e = each_stays_fit.later clock t p.address (Some p.connection) on e
-
--- what stands at the place of an address
-pub read_at : (ss : List (Option Place)) (a : Address) (n : ℕ) (o : Option Connection) → n ≡ index ss a → o ≡ within (get_or ss n None) → o ≡ find ss a
-read_at ss a n o e h = h ∙ (ap (λ m. within (get_or ss m None)) e ∙ ⊎_elim (λ l. sym (find_some ss a l)) (λ l. ap within (get_or_past ss (index ss a) None l) ∙ sym (find_none ss a l)) (split (index ss a) (length ss)))
-  where
-    split : (m n : ℕ) → (m < n) ⊎ (n ≤ m)
-    split m n = grind arith

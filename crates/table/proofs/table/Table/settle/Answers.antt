@@ -1,12 +1,17 @@
-use Rattle.std.proofs.Common.{sym, ap, ◌∙◌, arith}
-use Rattle.rules.specs.Fit.{fit_in}
-use Rattle.table.proofs.Moves.{room_new, room_gone}
+use Rattle.std.proofs.Common.{rules}
+use Rattle.table.proofs.Moves.{goes_somewhere, settles}
 use Rattle.table.proofs.table.Table.settle.Goals as goal
 
-pub insert-requires : goal.insert-requires
-insert-requires c =
-    let k = room_new c.args.self.now.slots c.args.address c.args.at c.args.next c.in-Some.c (let n = c.args.self.now.many in omega arith) c.requires.1.0 c.in-Some.is c.requires.1.1.1 in
-    (c.requires.0, (k.0, (k.1, sym (ap (fit_in c.args.tick c.args.address) c.in-Some.is) ∙ c.requires.1.1.0)))
+pub unwrap-place-requires : goal.unwrap-place-requires
+unwrap-place-requires c = goes_somewhere c.args.self.now.slots c.args.address c.args.at _ c.args.next c.args.self.now.many c.requires.placed (search rules) c.requires.room
 
-pub remove-requires : goal.remove-requires
-remove-requires c = (c.requires.0, room_gone _ _ c.args.next c.in-None.is c.requires.1.1.1)
+pub invariant_of-self : goal.invariant_of-self
+invariant_of-self c =
+    let t = c.args.self.now in
+    let k = settles t.clock t.wait c.args.tick.at t.slots c.requires.on_time (t.many, t.apart, t.fitting) c.args.at c.or_else.result c.unwrap-place.result (search rules) c.unwrap-place.ensures c.args.address c.args.next c.map.result c.requires.placed c.requires.room c.requires.fitting (record { same = search rules; at = λ p e. search rules }) in
+    record { many = k.0.0; apart = k.0.1; fitting = k.0.2; patient = t.patient }
+
+pub returns : goal.returns
+returns c =
+    let t = c.args.self.now in
+    (settles t.clock t.wait c.args.tick.at t.slots c.requires.on_time (t.many, t.apart, t.fitting) c.args.at c.or_else.result c.unwrap-place.result (search rules) c.unwrap-place.ensures c.args.address c.args.next c.map.result c.requires.placed c.requires.room c.requires.fitting (record { same = search rules; at = λ p e. search rules })).1
