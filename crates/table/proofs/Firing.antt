@@ -1,5 +1,6 @@
 -- A firing by the rules. Assumes nothing.
-use Rattle.std.proofs.Common.{◌≡◌, ℕ, ◌≤◌, Bool, true, false, cond, not, ◌&&◌, eqb, List, [], ◌∷◌, is_some, Some, None, Option, Bor, sym, refl, ap, ◌∙◌, subst}
+use Rattle.std.proofs.Common.{◌≡◌, ℕ, ◌≤◌, Bool, true, false, cond, not, ◌&&◌, eqb, List, [], ◌∷◌, is_some, Some, None, Ok, Err, Option, Result, Bor, sym, refl, ap, ◌∙◌, subst}
+use Rattle.std.specs.List.{position}
 use Rattle.std.specs.Option.{option_copied}
 use Rattle.report.specs.declared.report.Address.{Address}
 use Rattle.report.specs.declared.report.Report.{Report}
@@ -7,7 +8,6 @@ use Rattle.report.specs.declared.refusal.Refusal.{Refusal}
 use Rattle.report.specs.declared.refusal.Refusal.TheVariants.{Untimely, NoFreePlace}
 use Rattle.report.proofs.Addresses.{same_self}
 use Rattle.rules.specs.declared.call.Call.TheVariants.{Fire}
-use Rattle.rules.specs.declared.call.Order.{Order}
 use Rattle.rules.specs.declared.call.OrderKind.{OrderKind}
 use Rattle.rules.specs.declared.due.Item.{Item}
 use Rattle.rules.specs.declared.due.Timer.{Timer}
@@ -21,13 +21,16 @@ use Rattle.rules.specs.Occurrences.{fired}
 use Rattle.rules.specs.Orders.{by_timer_order}
 use Rattle.rules.specs.Reports.{listed, by_timer_sent}
 use Rattle.rules.specs.Rows.{untimely, timer_reports, firing_rows, rows, first}
-use Rattle.rules.specs.Rules.{after, effect, order, order_of, reports, reports_of}
+use Rattle.rules.specs.Rules.{after, order_of, reports_of}
 use Rattle.invariants.proofs.Basics.{none_some, not_early}
 use Rattle.invariants.proofs.Earliest.{picked}
 use Rattle.invariants.proofs.Fitness.{stays_fit}
 use Rattle.table.specs.declared.place.Place.{Place}
-use Rattle.table.specs.Places.{within}
-use Rattle.table.specs.State.{moved, RoomFor}
+use Rattle.table.specs.declared.place.Outcome.{Outcome}
+use Rattle.table.specs.declared.table.Table.{Table}
+use Rattle.table.specs.Places.{holds, within, in_place}
+use Rattle.table.specs.State.{core_of, admitted, moved, RoomFor, FollowsRule}
+use Rattle.table.proofs.Following.{all_fit, let_in, kept_out, Read, read, refuses, admits}
 use Rattle.table.proofs.Seeking.{nothing}
 
 -- whether a firing sends a report
@@ -53,66 +56,87 @@ goes k a d c r h = some r ∙ (ap any h ∙ sent k)
     sent PeriodEnd = refl
     sent ConfirmationLimit = last (eqb c.grant.had 0) _
 
--- what a place holds, as it is read
-there : (o : Option (Bor Place)) → is_some (within (option_copied o)) ≡ true → is_some o ≡ true
-there None e = e
-there (Some p) e = refl
+-- the item that is due first, at the place that is read at its address
+pub record Picked (t : Table) (tick now : ℕ) (i : Item) (o : Option (Bor Place)) : Type 0 where
+  timely : (untimely tick (core_of t)).0 ≡ false
+  is : now ≡ tick
+  due : earliest (dues_at (core_of t)) tick ≡ Some i
+  old : Read t.slots i.address (option_copied o)
 
-module _ (room : Bool) (t : ℕ) (s : Core) (timely : first (untimely t s ∷ []) ≡ None) (i : Item) (q : earliest (dues_at s) t ≡ Some i) where
-  in_time : (untimely t s).0 ≡ false
-  in_time = by (untimely t s).0 timely
-    where
-      by : (b : Bool) → cond b (Some Untimely) None ≡ None → b ≡ false
-      by true e = absurd (none_some (sym e))
-      by false e = refl
+pub picks : (t : Table) (tick now : ℕ) (i : Item) (at : Option ℕ) (o : Option (Bor Place)) → Ok now ≡ admitted tick (first (untimely tick (core_of t) ∷ [])) → earliest (dues_at (core_of t)) tick ≡ Some i → at ≡ position (holds i.address) t.slots → option_copied o ≡ in_place t.slots at → Picked t tick now i o
+picks t tick now i at o e q p r = let k = let_in tick now _ e in record { timely = by (untimely tick (core_of t)).0 k.0; is = k.1; due = q; old = read t.slots i.address at (option_copied o) p r }
+  where
+    by : (b : Bool) → cond b (Some Untimely) None ≡ None → b ≡ false
+    by true e = cc
+    by false e = refl
+
+module _ (room : Bool) (t : Table) (tick now : ℕ) (i : Item) (o : Option (Bor Place)) (k : Picked t tick now i o) where
+  abbrev s : Core
+  s = core_of t
 
   -- the item decides
-  by_item : (r : Option Refusal) → first (firing_rows room s (Some i)) ≡ r → first (rows room (Fire t) s) ≡ r
-  by_item r h = ap (λ (b : Bool). first ((b, Untimely) ∷ firing_rows room s (earliest (dues_at s) t))) in_time ∙ (ap (λ o. first (firing_rows room s o)) q ∙ h)
+  by_item : (r : Option Refusal) → first (firing_rows room s (Some i)) ≡ r → first (rows room (Fire tick) s) ≡ r
+  by_item r h = ap (λ (b : Bool). first ((b, Untimely) ∷ firing_rows room s (earliest (dues_at s) tick))) k.timely ∙ (ap (λ o. first (firing_rows room s o)) k.due ∙ h)
 
   runs_there : is_some (s.at i.address) ≡ true
-  runs_there = go (s.at i.address) (picked (dues_at s) t i q).runs
+  runs_there = go (s.at i.address) (picked (dues_at s) tick i k.due).runs
     where
       go : (o : Option Connection) → due_of (dues_in o) i.timer ≡ Some i.tick → is_some o ≡ true
       go None e = absurd (none_some (sym (nothing i.timer) ∙ e))
       go (Some c) e = refl
 
-  pub place_there : (o : Option (Bor Place)) → within (option_copied o) ≡ s.at i.address → is_some o ≡ true
-  place_there o e = there o (ap is_some e ∙ runs_there)
+  pub place_there : is_some o ≡ true
+  place_there = go o (ap is_some k.old.same ∙ runs_there)
+    where
+      go : (o : Option (Bor Place)) → is_some (within (option_copied o)) ≡ true → is_some o ≡ true
+      go None e = e
+      go (Some p) e = refl
 
-  pub room_next : (n : ℕ) (next : Option Connection) → RoomFor (is_some (s.at i.address)) n next
-  room_next n next = subst (λ b. RoomFor b n next) (sym runs_there) tt
+  pub on_time : t.clock ≤ now
+  on_time = rw k.is (not_early tick t.clock k.timely)
 
-  pub on_time : (now : ℕ) → now ≡ t → s.clock ≤ now
-  on_time now e = rw e (not_early t s.clock in_time)
+  pub room_next : (next : Option Connection) → RoomFor (is_some (s.at i.address)) s.count next
+  room_next next = subst (λ b. RoomFor b s.count next) (sym runs_there) tt
 
-  -- the place with the connection, and what it sends
-  module _ (p : Place) (here : p.address ≡ i.address) (same : Some p.connection ≡ s.at i.address) (r : Option Report) (sent : listed r ≡ by_timer_sent i.timer p.address i.tick (Some p.connection)) where
-    pub by_report : (e : Option Refusal) → first ((is_some r && not room, NoFreePlace) ∷ []) ≡ e → first (rows room (Fire t) s) ≡ e
-    by_report e h = by_item e (ap (λ (b : Bool). first ((b && not room, NoFreePlace) ∷ [])) (ap (timer_reports i.timer) (sym same) ∙ sym (goes i.timer p.address i.tick p.connection r sent)) ∙ h)
+  -- the place, and what it sends
+  module _ (p : Bor Place) (there : o ≡ Some p) (r : Option Report) (sent : listed r ≡ by_timer_sent i.timer p.now.address i.tick (Some p.now.connection)) where
+    here : p.now.address ≡ i.address
+    here = k.old.at p.now (ap option_copied there)
 
-    pub reports_are : listed r ≡ reports (Fire t) s
-    reports_are = sent ∙ (ap (λ a. by_timer_sent i.timer a i.tick (Some p.connection)) here ∙ (ap (by_timer_sent i.timer i.address i.tick) same ∙ sym (ap (λ o. reports_of (fired t o) s) q)))
+    same : Some p.now.connection ≡ s.at i.address
+    same = sym (ap (λ o. within (option_copied o)) there) ∙ k.old.same
 
-    pub order_is : (k : OrderKind) → k ≡ by_timer_order i.timer (Some p.connection) → ◌≡◌ {A = Order} (record { address = i.address; kind = k }) (order (Fire t) s)
-    order_is k e = ap (λ k. record { address = i.address; kind = k }) (e ∙ ap (by_timer_order i.timer) same) ∙ sym (ap (λ o. order_of (fired t o) s) q)
+    abbrev full : List (Bool × Refusal)
+    full = (is_some r && not room, NoFreePlace) ∷ []
 
-    module _ (now : ℕ) (is : now ≡ t) (next : Option Connection) (n : next ≡ by_timer s.wait i.timer p.address i.tick now (Some p.connection)) where
+    by_report : (e : Option Refusal) → first full ≡ e → first (rows room (Fire tick) s) ≡ e
+    by_report e h = by_item e (ap (λ (b : Bool). first ((b && not room, NoFreePlace) ∷ [])) (ap (timer_reports i.timer) (sym same) ∙ sym (goes i.timer p.now.address i.tick p.now.connection r sent)) ∙ h)
+
+    pub refused_full : (x : Result Outcome Refusal) (e : Refusal) → x ≡ Err e → ◌≡◌ {A = Result (Unit {0}) Refusal} (Err e) (admitted tt (first full)) → FollowsRule room (Fire tick) t x t
+    refused_full x e is h = refuses room (Fire tick) t x e is (by_report (Some e) (kept_out tt e (first full) h))
+
+    module _ (pass : ◌≡◌ {A = Result (Unit {0}) Refusal} (Ok tt) (admitted tt (first full))) (next : Option Connection) (n : next ≡ by_timer s.wait i.timer p.now.address i.tick now (Some p.now.connection)) where
+      passes : first (rows room (Fire tick) s) ≡ None
+      passes = by_report None (let_in tt tt (first full) pass).0
+
       abbrev turned : Option Connection
-      turned = by_timer s.wait i.timer i.address i.tick t (s.at i.address)
+      turned = by_timer s.wait i.timer i.address i.tick tick (s.at i.address)
 
       next_is : turned ≡ next
-      next_is = sym (n ∙ (ap (λ a. by_timer s.wait i.timer a i.tick now (Some p.connection)) here ∙ (ap (by_timer s.wait i.timer i.address i.tick now) same ∙ ap (λ t. by_timer s.wait i.timer i.address i.tick t (s.at i.address)) is)))
-
-      pub effect_is : moved now i.address next s ≡ effect (Fire t) s
-      effect_is = rw is (ap (λ o. moved t i.address o s) (sym next_is) ∙ sym (ap (λ o. after (fired t o) s) q))
+      next_is = sym (n ∙ (ap (λ a. by_timer s.wait i.timer a i.tick now (Some p.now.connection)) here ∙ (ap (by_timer s.wait i.timer i.address i.tick now) same ∙ ap (λ t. by_timer s.wait i.timer i.address i.tick t (s.at i.address)) k.is)))
 
       -- a firing leaves a fit connection
-      pub fit_next : first (rows room (Fire t) s) ≡ None → AllFit s → fit_in now i.address next ≡ true
-      fit_next pass g = rw is (by next next_is)
+      pub fit_next : fit_in now i.address next ≡ true
+      fit_next = rw k.is (by next next_is)
         where
-          by : (next : Option Connection) → turned ≡ next → fit_in t i.address next ≡ true
+          by : (next : Option Connection) → turned ≡ next → fit_in tick i.address next ≡ true
           by None e = refl
           by (Some c) e =
-              let after-fit = subst (λ o. AllFit (after (fired t o) s)) q (stays_fit.ever_after room (Fire t) s pass g) in
+              let after-fit = subst (λ o. AllFit (after (fired tick o) s)) k.due (stays_fit.ever_after room (Fire tick) s passes (all_fit t)) in
               after-fit i.address c (ap (λ b. cond b turned (s.at i.address)) (same_self i.address) ∙ e)
+
+      pub fires_so : (t' : Table) (kind : OrderKind) → core_of t' ≡ moved now i.address next s → kind ≡ by_timer_order i.timer (Some p.now.connection) → FollowsRule room (Fire tick) t (Ok (record { order = record { address = i.address; kind = kind }; report = r })) t'
+      fires_so t' kind m e = admits room (Fire tick) t t' _ passes
+          (m ∙ rw k.is (ap (λ o. moved tick i.address o s) (sym next_is) ∙ sym (ap (λ o. after (fired tick o) s) k.due)))
+          (ap (λ k. record { address = i.address; kind = k }) (e ∙ ap (by_timer_order i.timer) same) ∙ sym (ap (λ o. order_of (fired tick o) s) k.due))
+          (sent ∙ (ap (λ a. by_timer_sent i.timer a i.tick (Some p.now.connection)) here ∙ (ap (by_timer_sent i.timer i.address i.tick) same ∙ sym (ap (λ o. reports_of (fired tick o) s) k.due))))

@@ -1,6 +1,7 @@
 -- A table's calls by the rule: refused, or admitted. Assumes nothing.
 use Rattle.std.proofs.Common.{◌≡◌, ℕ, ◌<◌, Bool, true, false, cond, List, [], ◌∷◌, ◌++◌, length, get_or, is_some, Some, None, Ok, Err, Option, Result, sym, refl, ap, ◌∙◌, subst, arith}
 use Rattle.std.specs.List.{position}
+use Rattle.std.specs.Option.{option_or}
 use Rattle.report.specs.declared.report.Address.{Address}
 use Rattle.report.specs.declared.refusal.Refusal.{Refusal}
 use Rattle.rules.specs.declared.call.Call.{Call}
@@ -9,47 +10,39 @@ use Rattle.rules.specs.Fit.{fit, AllFit, Sendable}
 use Rattle.rules.specs.Reports.{listed}
 use Rattle.rules.specs.Rows.{rows, first}
 use Rattle.rules.specs.Rules.{Ruled, ruled, effect, order, reports}
-use Rattle.invariants.proofs.Basics.{differ, none_some, some_same}
+use Rattle.invariants.proofs.Basics.{none_some, some_same}
 use Rattle.invariants.proofs.Fitness.{sends_lawful}
 use Rattle.table.specs.declared.place.Place.{Place}
 use Rattle.table.specs.declared.place.Outcome.{Outcome}
 use Rattle.table.specs.declared.table.Table.{Table}
-use Rattle.table.specs.Places.{holds, within, find, standing, fit_place}
-use Rattle.table.specs.State.{held, core_of, admitted, FollowsRule}
+use Rattle.table.specs.Places.{holds, within, find, in_place, fit_place}
+use Rattle.table.specs.State.{core_of, admitted, FollowsRule}
 use Rattle.table.proofs.Slots.{index, placed, not_placed, found, find_some, find_none, index_holds, held_at}
 
 -- rows before others
-pub first_before : (xs ys : List (Bool × Refusal)) (e : Refusal) → first xs ≡ Some e → first (xs ++ ys) ≡ Some e
-first_before [] ys e h = absurd (none_some h)
-first_before (x ∷ xs) ys e h = go x.0 h (first_before xs ys e)
+pub first_append : (xs ys : List (Bool × Refusal)) → first (xs ++ ys) ≡ option_or (first xs) (first ys)
+first_append [] ys = refl
+first_append (x ∷ xs) ys = go x.0 (first_append xs ys)
   where
-    go : (b : Bool) → cond b (Some x.1) (first xs) ≡ Some e → (first xs ≡ Some e → first (xs ++ ys) ≡ Some e) → cond b (Some x.1) (first (xs ++ ys)) ≡ Some e
-    go true h ih = h
-    go false h ih = ih h
-
-pub first_after : (xs ys : List (Bool × Refusal)) → first xs ≡ None → first (xs ++ ys) ≡ first ys
-first_after [] ys h = refl
-first_after (x ∷ xs) ys h = go x.0 h (first_after xs ys)
-  where
-    go : (b : Bool) → cond b (Some x.1) (first xs) ≡ None → (first xs ≡ None → first (xs ++ ys) ≡ first ys) → cond b (Some x.1) (first (xs ++ ys)) ≡ first ys
-    go true h ih = absurd (none_some (sym h))
-    go false h ih = ih h
+    go : (b : Bool) → first (xs ++ ys) ≡ option_or (first xs) (first ys) → cond b (Some x.1) (first (xs ++ ys)) ≡ option_or (cond b (Some x.1) (first xs)) (first ys)
+    go true ih = refl
+    go false ih = ih
 
 -- the connections of a table are fit
-pub all_fit : (clock w : ℕ) (ss : List (Option Place)) → ((k : ℕ) → fit_place clock (get_or ss k None) ≡ true) → AllFit (held clock w ss)
-all_fit clock w ss h a c e =
-    let l = found ss a (ap is_some e) in
-    let q = held_at (get_or ss (index ss a) None) a (index_holds ss a l) in
-    let is : q.0.connection ≡ c = some_same (sym (ap within q.1) ∙ (sym (find_some ss a l) ∙ e)) in
-    ap (fit clock a) (sym is) ∙ (ap (λ b. fit clock b q.0.connection) (sym q.2) ∙ (sym (ap (fit_place clock) q.1) ∙ h (index ss a)))
+pub all_fit : (t : Table) → AllFit (core_of t)
+all_fit t a c e =
+    let l = found t.slots a (ap is_some e) in
+    let q = held_at (get_or t.slots (index t.slots a) None) a (index_holds t.slots a l) in
+    let is : q.0.connection ≡ c = some_same (sym (ap within q.1) ∙ (sym (find_some t.slots a l) ∙ e)) in
+    ap (fit t.clock a) (sym is) ∙ (ap (λ b. fit t.clock b q.0.connection) (sym q.2) ∙ (sym (ap (fit_place t.clock) q.1) ∙ t.fitting (index t.slots a)))
 
 -- what an admitting or refusing function returned
 pub let_in : {X : Type 0} (x y : X) (r : Option Refusal) → Ok y ≡ admitted x r → (r ≡ None) × (y ≡ x)
 let_in x y None e = (refl, cc)
-let_in x y (Some f) e = absurd (differ cc)
+let_in x y (Some f) e = cc
 
 pub kept_out : {X : Type 0} (x : X) (f : Refusal) (r : Option Refusal) → Err f ≡ admitted x r → r ≡ Some f
-kept_out x f None e = absurd (differ cc)
+kept_out x f None e = cc
 kept_out x f (Some g) e = cc
 
 -- a place that is read at an address
@@ -57,7 +50,7 @@ pub record Read (ss : List (Option Place)) (a : Address) (o : Option Place) : Ty
   pub same : within o ≡ find ss a
   pub at : (p : Place) → o ≡ Some p → p.address ≡ a
 
-pub read : (ss : List (Option Place)) (a : Address) (i : Option ℕ) (o : Option Place) → i ≡ position (holds a) ss → o ≡ standing ss i → Read ss a o
+pub read : (ss : List (Option Place)) (a : Address) (i : Option ℕ) (o : Option Place) → i ≡ position (holds a) ss → o ≡ in_place ss i → Read ss a o
 read ss a None o e h = record { same = ap within h ∙ sym (find_none ss a (not_placed (holds a) ss (sym e))); at = λ p q. absurd (none_some (sym h ∙ q)) }
 read ss a (Some i) o e h =
     let there = placed (holds a) ss i (sym e) in
@@ -83,6 +76,6 @@ admits room call t t' x q m o r =
       core = m ∙ sym (ap (λ (r : Ruled). r.core) k);
       reply = ap Done o ∙ sym (ap (λ (r : Ruled). r.reply) k);
       sent = r ∙ sym (ap (λ (r : Ruled). r.sent) k);
-      sendable = subst (Sendable room) (sym r) (sends_lawful room call (core_of t) q (all_fit t.clock t.wait t.slots t.fitting));
+      sendable = subst (Sendable room) (sym r) (sends_lawful room call (core_of t) q (all_fit t));
       unaltered = tt;
     }

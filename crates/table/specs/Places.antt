@@ -22,9 +22,9 @@ find [] a = None
 find (s ∷ ss) a = cond (holds a s) (within s) (find ss a)
 
 -- what stands in a place; nothing where there is no such place
-abbrev pub standing : List (Option Place) → Option ℕ → Option Place
-standing ss None = None
-standing ss (Some i) = slice_index_or ss i None
+abbrev pub in_place : List (Option Place) → Option ℕ → Option Place
+in_place ss None = None
+in_place ss (Some i) = slice_index_or ss i None
 
 -- whether a place is free
 abbrev pub is_free : Option Place → Bool

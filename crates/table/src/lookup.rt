@@ -4,7 +4,7 @@ ghost use Rattle.std.specs.Option.{option_copied};
 ghost use Rattle.rules.specs.Core.{start};
 ghost use Rattle.rules.specs.Limits.{connections};
 ghost use Rattle.rules.specs.Rows.{untimely, first};
-ghost use Rattle.table.specs.Places.{holds, standing, is_free, used};
+ghost use Rattle.table.specs.Places.{holds, in_place, is_free, used};
 ghost use Rattle.table.specs.State.{core_of, admitted, tick_of};
 
 use crate::place::Place;
@@ -67,7 +67,7 @@ impl Table {
 
     // The connection in a place, with its address.
     pub(crate) fn place_in(&self, at: Option<usize>) -> Option<&Place>
-        ensures { option_copied result ≡ standing self.now.slots at }
+        ensures { option_copied result ≡ in_place self.now.slots at }
     {
         self.slots.get(at?)?.as_ref()
     }

@@ -12,7 +12,7 @@ use rules::{Connection, EValues, Operation, OrderKind, Period, Stage, Timer};
 fn order_set(values: Option<EValues>) -> OrderKind
     ensures { result ≡ advise_set values }
 {
-    values.map_or(OrderKind::Nothing, |v| OrderKind::Advise(v))
+    values.map_or(OrderKind::Nothing, OrderKind::Advise)
 }
 
 // Advise, after the answer.
@@ -31,7 +31,7 @@ fn order_sound(period: Option<Period>) -> OrderKind
 {
     period
         .and_then(|p| p.bursts)
-        .map_or(OrderKind::Nothing, |b| OrderKind::Sound(b))
+        .map_or(OrderKind::Nothing, OrderKind::Sound)
 }
 
 // What an operation orders: the answer, or advise after it, orders the first set sent.

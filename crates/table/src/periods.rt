@@ -11,12 +11,11 @@ ghost use Rattle.rules.specs.Limits.{second, longest_period, longest_switch};
 ghost use Rattle.rules.specs.Periods.{period_end, sound_due, started, switch_due, dues_instructed, dues_answered, dues_advised};
 ghost use Rattle.rules.specs.Ranges.{second_fits, fits};
 
-use crate::changes::answer_tick;
 use crate::place::Place;
 use crate::tick::Tick;
 use bursts::BurstList;
 use rules::limits::SECOND;
-use rules::{Dues, Instruction, Period, SecondSet};
+use rules::{Dues, Instruction, Period, SecondSet, Stage};
 
 // The ticks before the period's end at which a sound starts.
 pub(crate) fn warning_of(b: &BurstList) -> u32
@@ -97,19 +96,17 @@ pub(crate) fn instruct_dues(tick: Tick, i: &Instruction, place: &Place) -> Dues
         end: None,
         limit: None,
     };
-    if answer_tick(&c.stage).is_none() {
-        return granted;
+    let start = c.grant.previous.map_or(
+        tick,
+        |at|
+            requires { at ≤ last_tick }
+        { Tick { at } },
+    );
+    let period = &open_period(tick, i);
+    match c.stage {
+        Stage::Consultation | Stage::Waiting => granted,
+        Stage::Answered(_) => Started { start, period }.dues(&granted),
     }
-    Started {
-        start: c.grant.previous.map_or(
-            tick,
-            |at|
-                requires { at ≤ last_tick }
-            { Tick { at } },
-        ),
-        period: &open_period(tick, i),
-    }
-    .dues(&granted)
 }
 
 // An answer starts the open period, if there is one.

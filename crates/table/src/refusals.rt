@@ -36,11 +36,11 @@ fn is_too_long(bursts: &Option<BurstList>) -> bool
 fn admit_instruct(i: &Instruction, c: &Connection) -> Result<(), Refusal>
     ensures { result ≡ admitted tt (first (operation_rows true (Instruct i.now) (Some c.now) 0)) }
 {
-    let switched_out = i.switch.is_some() && c.meter.switches >= TARIFF_SWITCHES;
+    let no_switch_left = i.switch.is_some() && c.meter.switches >= TARIFF_SWITCHES;
     refuse_if(c.grant.period.is_some(), Refusal::Pending)?;
     refuse_if(is_too_long(&i.bursts), Refusal::BurstsTooLong)?;
     refuse_if(
-        c.grant.had >= INSTRUCTIONS || switched_out,
+        c.grant.had >= INSTRUCTIONS || no_switch_left,
         Refusal::LimitReached,
     )
 }

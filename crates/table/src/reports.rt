@@ -1,5 +1,5 @@
 // The reports that a connection makes.
-ghost use Rattle.std.specs.Prelude.{◌≡◌, Some};
+ghost use Rattle.std.specs.Prelude.{◌≡◌, [], ◌∷◌, Some};
 ghost use Rattle.rules.specs.Changes.{made, releases};
 ghost use Rattle.rules.specs.Core.{answered_at};
 ghost use Rattle.rules.specs.Reports.{listed, last_report, end_report, by_operation_sent, by_timer_sent};
@@ -60,15 +60,15 @@ fn report_last(asof: u32, place: &Place) -> Option<Report>
 }
 
 // A period end sends a report, with the release mark the last.
-fn report_end(asof: u32, place: &Place) -> Option<Report>
-    ensures { listed result ≡ end_report place.now.address asof (Some place.now.connection) }
+fn report_end(asof: u32, place: &Place) -> Report
+    ensures { result ∷ [] ≡ end_report place.now.address asof (Some place.now.connection) }
 {
     let standing = if is_releasing(&place.connection.grant.period) {
         Standing::Released
     } else {
         Standing::Active
     };
-    Some(make(asof, standing, place))
+    make(asof, standing, place)
 }
 
 // What an operation sends: ends send a last report, and a repeat the awaiting report once more, unchanged.
@@ -93,7 +93,7 @@ pub(crate) fn report_at(item: &Item, place: &Place) -> Option<Report>
 {
     match item.timer {
         Timer::TariffSwitch | Timer::AdviceSwitch | Timer::Sound => None,
-        Timer::PeriodEnd => report_end(item.tick, place),
+        Timer::PeriodEnd => Some(report_end(item.tick, place)),
         Timer::ConfirmationLimit => report_last(item.tick, place),
     }
 }
