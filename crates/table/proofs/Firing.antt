@@ -30,7 +30,8 @@ use Rattle.table.specs.declared.place.Outcome.{Outcome}
 use Rattle.table.specs.declared.table.Table.{Table}
 use Rattle.table.specs.Places.{holds, within, in_place}
 use Rattle.table.specs.State.{core_of, admitted, moved, RoomFor, FollowsRule}
-use Rattle.table.proofs.Following.{all_fit, let_in, kept_out, Read, read, refuses, admits}
+use Rattle.table.proofs.Following.{all_fit, let_in, kept_out, refuses, admits}
+use Rattle.table.proofs.Slots.{Read, read}
 use Rattle.table.proofs.Seeking.{nothing}
 
 -- whether a firing sends a report

@@ -30,7 +30,8 @@ use Rattle.table.specs.declared.place.Outcome.{Outcome}
 use Rattle.table.specs.declared.table.Table.{Table}
 use Rattle.table.specs.Places.{holds, within, in_place}
 use Rattle.table.specs.State.{core_of, heads, admitted, moved, RoomFor, FollowsRule}
-use Rattle.table.proofs.Following.{first_append, all_fit, let_in, kept_out, Read, read, refuses, admits}
+use Rattle.table.proofs.Following.{first_append, all_fit, let_in, kept_out, refuses, admits}
+use Rattle.table.proofs.Slots.{Read, read}
 
 -- rows that end with a place's, with room
 three : (a b r room : Bool) → first ((a, NoConnection) ∷ (b, WrongStage) ∷ (r && not room, NoFreePlace) ∷ []) ≡ None → first ((a, NoConnection) ∷ (b, WrongStage) ∷ (r && not true, NoFreePlace) ∷ []) ≡ None

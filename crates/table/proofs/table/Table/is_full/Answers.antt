@@ -1,5 +1,5 @@
 use Rattle.std.proofs.Common.{rules}
-use Rattle.table.proofs.Moves.{is_full}
+use Rattle.table.proofs.Slots.{is_full}
 use Rattle.table.proofs.table.Table.is_full.Goals as goal
 
 pub returns : goal.returns
