@@ -28,10 +28,10 @@ use Rattle.invariants.proofs.Fitness.{stays_fit}
 use Rattle.table.specs.declared.place.Place.{Place}
 use Rattle.table.specs.declared.place.Outcome.{Outcome}
 use Rattle.table.specs.declared.table.Table.{Table}
-use Rattle.table.specs.Places.{holds, within, in_place}
+use Rattle.table.specs.Places.{holds, within, find, in_place}
 use Rattle.table.specs.State.{core_of, admitted, moved, RoomFor, FollowsRule}
 use Rattle.table.proofs.Following.{all_fit, let_in, kept_out, refuses, admits}
-use Rattle.table.proofs.Slots.{Read, read}
+use Rattle.table.proofs.Slots.{Bears, read}
 use Rattle.table.proofs.Seeking.{nothing}
 
 -- whether a firing sends a report
@@ -62,7 +62,7 @@ pub record Picked (t : Table) (tick now : ℕ) (i : Item) (o : Option (Bor Place
   timely : (untimely tick (core_of t)).0 ≡ false
   is : now ≡ tick
   due : earliest (dues_at (core_of t)) tick ≡ Some i
-  old : Read t.slots i.address (option_copied o)
+  old : Bears i.address (find t.slots i.address) (option_copied o)
 
 pub picks : (t : Table) (tick now : ℕ) (i : Item) (at : Option ℕ) (o : Option (Bor Place)) → Ok now ≡ admitted tick (first (untimely tick (core_of t) ∷ [])) → earliest (dues_at (core_of t)) tick ≡ Some i → at ≡ position (holds i.address) t.slots → option_copied o ≡ in_place t.slots at → Picked t tick now i o
 picks t tick now i at o e q p r = let k = let_in tick now _ e in record { timely = by (untimely tick (core_of t)).0 k.0; is = k.1; due = q; old = read t.slots i.address at (option_copied o) p r }

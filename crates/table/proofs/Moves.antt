@@ -22,7 +22,7 @@ use Rattle.table.specs.declared.place.Place.{Place}
 use Rattle.table.specs.declared.table.Table.{Table}
 use Rattle.table.specs.Places.{holds, within, find, is_free, used, alone, distinct, fit_place}
 use Rattle.table.specs.State.{held, core_of, moved, RoomFor}
-use Rattle.table.proofs.Slots.{held_at, held_nowhere, find_nowhere, one_place, has_free}
+use Rattle.table.proofs.Slots.{Bears, held_at, held_nowhere, find_nowhere, one_place, has_free}
 
 -- Where a write goes: the place of the address, or else the first free one.
 abbrev pub Goes : List (Option Place) → Option ℕ → Option ℕ → Type 0
@@ -54,11 +54,6 @@ sole ss a (Some i) o n d e g q =
 
 further : (a : Address) (s : Option Place) (ss : List (Option Place)) (n : ℕ) → Sole a (s ∷ ss) (suc n) → Sole a ss n
 further a s ss n k = record { lt = omega (arith, k.lt); at = k.at; others = λ j ne. k.others (suc j) (λ e. ne (omega arith)) }
-
--- What is put there: the connection that is to be at the address.
-pub record Puts (a : Address) (next : Option Connection) (s : Option Place) : Type 0 where
-  pub same : within s ≡ next
-  pub at : (p : Place) → s ≡ Some p → p.address ≡ a
 
 -- two cores that agree in what they hold
 agree : (t w : ℕ) (f g : Address → Option Connection) (m n : ℕ) → ((x : Address) → f x ≡ g x) → m ≡ n → ◌≡◌ {A = Core} (record { clock = t; wait = w; at = f; count = m }) (record { clock = t; wait = w; at = g; count = n })
@@ -115,8 +110,8 @@ pub record Settled (t : Table) (now : ℕ) (a : Address) (next : Option Connecti
   pub fitting : (k : ℕ) → fit_place now (get_or ss k None) ≡ true
   pub core : held now t.wait ss ≡ moved now a next (core_of t)
 
-module _ (a : Address) (next : Option Connection) (s : Option Place) (puts : Puts a next s) where
-  -- what is found afterwards
+module _ (a : Address) (next : Option Connection) (s : Option Place) (puts : Bears a next s) where
+  -- what is found once the place bears the connection that is to be there
   find_set : (ss : List (Option Place)) (n : ℕ) → Sole a ss n → (x : Address) → find (set ss n s) x ≡ cond (same x a) next (find ss x)
   find_set [] n k x = absurd (omega (arith, k.lt))
   find_set (o ∷ ss) zero k x = by (same x a) refl

@@ -28,10 +28,10 @@ use Rattle.invariants.proofs.Fitness.{stays_fit}
 use Rattle.table.specs.declared.place.Place.{Place}
 use Rattle.table.specs.declared.place.Outcome.{Outcome}
 use Rattle.table.specs.declared.table.Table.{Table}
-use Rattle.table.specs.Places.{holds, within, in_place}
+use Rattle.table.specs.Places.{holds, within, find, in_place}
 use Rattle.table.specs.State.{core_of, heads, admitted, moved, RoomFor, FollowsRule}
 use Rattle.table.proofs.Following.{first_append, all_fit, let_in, kept_out, refuses, admits}
-use Rattle.table.proofs.Slots.{Read, read}
+use Rattle.table.proofs.Slots.{Bears, read}
 
 -- rows that end with a place's, with room
 three : (a b r room : Bool) → first ((a, NoConnection) ∷ (b, WrongStage) ∷ (r && not room, NoFreePlace) ∷ []) ≡ None → first ((a, NoConnection) ∷ (b, WrongStage) ∷ (r && not true, NoFreePlace) ∷ []) ≡ None
@@ -89,7 +89,7 @@ sends_there x a t None r h at = ap listed h ∙ sym (none_sent x)
 pub record Entered (t : Table) (tick now : ℕ) (a : Address) (x : Operation) (o : Option Place) : Type 0 where
   passed : first (heads tick a (fits x) (core_of t)) ≡ None
   is : now ≡ tick
-  old : Read t.slots a o
+  old : Bears a (find t.slots a) o
 
 pub entered : (t : Table) (tick now : ℕ) (a : Address) (x : Operation) (i : Option ℕ) (o : Option Place) → Ok now ≡ admitted tick (first (heads tick a (fits x) (core_of t))) → i ≡ position (holds a) t.slots → o ≡ in_place t.slots i → Entered t tick now a x o
 entered t tick now a x i o e p q = let k = let_in tick now _ e in record { passed = k.0; is = k.1; old = read t.slots a i o p q }

@@ -8,6 +8,7 @@ use Rattle.std.proofs.lemmas.List.Recursion.{found_at, found_nowhere}
 use Rattle.std.proofs.lemmas.List.Sums.{fails_before_first}
 use Rattle.report.specs.declared.report.Address.{Address}
 use Rattle.report.proofs.Addresses.{same_address}
+use Rattle.rules.specs.declared.connection.Connection.{Connection}
 use Rattle.rules.specs.Limits.{connections}
 use Rattle.invariants.proofs.Basics.{differ, some_same, and_left, and_right}
 use Rattle.table.specs.declared.place.Place.{Place}
@@ -29,7 +30,7 @@ held_nowhere a ss e k = ⊎_elim (nowhere (holds a) ss e k) (λ l. ap (holds a) 
 
 -- a place with the address a
 pub held_at : (a : Address) (s : Option Place) → holds a s ≡ true → (p : Place) × (s ≡ Some p) × (p.address ≡ a)
-held_at a None e = absurd (differ e)
+held_at a None e = cc
 held_at a (Some p) e = (p, refl, sym (same_address a p.address e))
 
 -- what is found at an address
@@ -39,12 +40,13 @@ find_at a ss i e = let k = position-Some (holds a) ss i None e in found_at (λ s
 pub find_nowhere : (a : Address) (ss : List (Option Place)) → ((k : ℕ) → holds a (get_or ss k None) ≡ false) → find ss a ≡ None
 find_nowhere a ss h = found_nowhere (λ ss. find ss a) (holds a) within None refl (λ _ _. refl) ss None (λ k l. h k)
 
--- a place that is read at an address
-pub record Read (ss : List (Option Place)) (a : Address) (o : Option Place) : Type 0 where
-  pub same : within o ≡ find ss a
-  pub at : (p : Place) → o ≡ Some p → p.address ≡ a
+-- a place with the connection that may be at an address
+pub record Bears (a : Address) (o : Option Connection) (s : Option Place) : Type 0 where
+  pub same : within s ≡ o
+  pub at : (p : Place) → s ≡ Some p → p.address ≡ a
 
-pub read : (ss : List (Option Place)) (a : Address) (i : Option ℕ) (o : Option Place) → i ≡ position (holds a) ss → o ≡ in_place ss i → Read ss a o
+-- the place that is read at an address
+pub read : (ss : List (Option Place)) (a : Address) (i : Option ℕ) (o : Option Place) → i ≡ position (holds a) ss → o ≡ in_place ss i → Bears a (find ss a) o
 read ss a None o e h = record { same = ap within h ∙ sym (find_nowhere a ss (held_nowhere a ss (sym e))); at = λ p q. cc }
 read ss a (Some i) o e h =
     let q = held_at a (get_or ss i None) (position-Some (holds a) ss i None (sym e)).1 in
@@ -55,23 +57,26 @@ read ss a (Some i) o e h =
 
 -- what a place with the address holds is found, if not at another place
 found : (a : Address) (ss : List (Option Place)) (k : ℕ) → holds a (get_or ss k None) ≡ true → is_some (find ss a) ≡ true
-found a [] k e = absurd (differ e)
+found a [] k e = cc
 found a (s ∷ ss) zero e = let q = held_at a s e in ap (λ b. is_some (cond b (within s) (find ss a))) e ∙ ap (λ s. is_some (within s)) q.1
 found a (s ∷ ss) (suc k) e = by s (holds a s) refl (found a ss k e)
   where
     by : (s : Option Place) (b : Bool) → holds a s ≡ b → is_some (find ss a) ≡ true → is_some (cond b (within s) (find ss a)) ≡ true
-    by None true q f = absurd (differ q)
+    by None true q f = cc
     by (Some p) true q f = refl
     by s false q f = f
 
+-- no place further on has the address of this one
+twice : (a : Address) (s : Option Place) (ss : List (Option Place)) (k : ℕ) → alone s ss ≡ true → holds a s ≡ true → holds a (get_or ss k None) ≡ true → ⊥
+twice a None ss k al p q = differ p
+twice a (Some x) ss k al p q = differ (ap not (sym (found a ss k q)) ∙ (ap (λ b. not (is_some (find ss b))) (same_address a x.address p) ∙ al))
+
 -- two places with one address are one
 pub one_place : (a : Address) (ss : List (Option Place)) (i k : ℕ) → distinct ss ≡ true → holds a (get_or ss i None) ≡ true → holds a (get_or ss k None) ≡ true → i ≡ k
-one_place a [] i k d p q = absurd (differ p)
+one_place a [] i k d p q = cc
 one_place a (s ∷ ss) zero zero d p q = refl
-one_place a (None ∷ ss) zero (suc k) d p q = absurd (differ p)
-one_place a (Some x ∷ ss) zero (suc k) d p q = let f = ap (λ b. not (is_some (find ss b))) (sym (same_address a x.address p)) ∙ ap not (found a ss k q) in absurd (differ (sym f ∙ and_left (alone (Some x) ss) (distinct ss) d))
-one_place a (None ∷ ss) (suc i) zero d p q = absurd (differ q)
-one_place a (Some x ∷ ss) (suc i) zero d p q = let f = ap (λ b. not (is_some (find ss b))) (sym (same_address a x.address q)) ∙ ap not (found a ss i p) in absurd (differ (sym f ∙ and_left (alone (Some x) ss) (distinct ss) d))
+one_place a (s ∷ ss) zero (suc k) d p q = absurd (twice a s ss k (and_left (alone s ss) (distinct ss) d) p q)
+one_place a (s ∷ ss) (suc i) zero d p q = absurd (twice a s ss i (and_left (alone s ss) (distinct ss) d) q p)
 one_place a (s ∷ ss) (suc i) (suc k) d p q = ap suc (one_place a ss i k (and_right (alone s ss) (distinct ss) d) p q)
 
 -- how many places are taken
@@ -82,13 +87,13 @@ taken_most (Some p ∷ ss) = let ih = taken_most ss in omega arith
 
 full_up : (ss : List (Option Place)) → ((k : ℕ) → k < length ss → is_free (get_or ss k None) ≡ false) → used ss ≡ length ss
 full_up [] h = refl
-full_up (None ∷ ss) h = absurd (differ (sym (h 0 (omega arith))))
+full_up (None ∷ ss) h = let n = h 0 (omega arith) in cc
 full_up (Some p ∷ ss) h = let ih = full_up ss (λ k l. h (suc k) (omega arith)) in omega arith
 
 room_left : (ss : List (Option Place)) (k : ℕ) → k < length ss → is_free (get_or ss k None) ≡ true → used ss < length ss
 room_left [] k l e = absurd (omega arith)
 room_left (None ∷ ss) k l e = let m = taken_most ss in omega arith
-room_left (Some p ∷ ss) zero l e = absurd (differ e)
+room_left (Some p ∷ ss) zero l e = cc
 room_left (Some p ∷ ss) (suc k) l e = let ih = room_left ss k (omega arith) e in omega arith
 
 pub is_full : (ss : List (Option Place)) (o : Option ℕ) → length ss ≡ connections → o ≡ position is_free ss → not (is_some o) ≡ nat_le connections (used ss)

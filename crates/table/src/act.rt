@@ -78,6 +78,7 @@ impl Table {
         let now = self.timely(tick)?;
         let item = self.earliest(tick).ok_or(Refusal::NothingDue)?;
         let at = self.place_of(item.address);
+        // A timer runs only at a connection that is there.
         let place = self.place_in(at).unwrap();
         let report = report_at(&item, place);
         refuse_if(report.is_some() && !room, Refusal::NoFreePlace)?;

@@ -27,6 +27,7 @@ impl Table {
         requires room { RoomFor (is_some (find self.old.slots address)) (used self.old.slots) next }
         ensures { core_of self.new ≡ moved tick.at address next (core_of self.old) }
     {
+        // Where the address has no place, one is free.
         let place = at.or_else(|| self.free_place()).unwrap();
         self.clock = tick.at;
         self.slots[place] = next.map(

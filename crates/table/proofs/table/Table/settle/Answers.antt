@@ -1,9 +1,14 @@
-use Rattle.std.proofs.Common.{rules}
+use Rattle.std.proofs.Common.{sym, ap, ◌∙◌, rules}
+use Rattle.rules.specs.Fit.{fit_in}
+use Rattle.invariants.proofs.Fitness.{fit_sound}
 use Rattle.table.proofs.Moves.{goes_somewhere, sole, settles}
 use Rattle.table.proofs.table.Table.settle.Goals as goal
 
 pub unwrap-place-requires : goal.unwrap-place-requires
 unwrap-place-requires c = goes_somewhere c.args.self.now.slots c.args.address c.args.at _ c.args.next c.args.self.now.many c.requires.placed (search rules) c.requires.room
+
+pub map-requires : goal.map-requires
+map-requires c = λ x e. fit_sound c.args.tick.at c.args.address x (ap (fit_in c.args.tick.at c.args.address) (sym e) ∙ c.requires.fitting)
 
 pub invariant_of-self : goal.invariant_of-self
 invariant_of-self c =
