@@ -1,7 +1,6 @@
-mod Values
 mod Slots
 mod Moves
 mod Seeking
-pub mod Following
+mod Following
 mod Operations
 mod Firing

@@ -1,267 +1,106 @@
--- Places found and written. Assumes nothing.
-use Rattle.std.proofs.Common.{◌≡◌, ℕ, zero, suc, ◌+◌, ◌<◌, ◌≤◌, Bool, true, false, cond, not, ◌&&◌, ◌⊎◌, List, [], ◌∷◌, length, get_or, drop, set, is_some, Some, None, Option, sym, refl, ap, ◌∙◌, subst, ⊎_elim, arith}
-use Rattle.std.proofs.lemmas.Bool.Decides.{eqb_tells}
-use Rattle.std.proofs.lemmas.List.{get_or-set_same, get_or-set_other, get_or_past, at_drop_more, at_drop_all}
+-- Places found by their addresses. Assumes nothing.
+use Rattle.std.proofs.Common.{◌≡◌, ℕ, zero, suc, ◌<◌, ◌≤◌, Bool, true, false, cond, not, ltb, nat_le, ◌⊎◌, List, [], ◌∷◌, length, get_or, is_some, Some, None, Option, sym, refl, ap, ◌∙◌, ⊎_elim, arith}
+use Rattle.std.specs.List.{position, position_or_len}
+use Rattle.std.proofs.lemmas.Bool.Decides.{nat_tests}
+use Rattle.std.proofs.lemmas.List.{get_or_past}
+use Rattle.std.proofs.lemmas.List.Quantifiers.{position-Some}
+use Rattle.std.proofs.lemmas.List.Recursion.{found_at, found_nowhere}
+use Rattle.std.proofs.lemmas.List.Sums.{fails_before_first}
 use Rattle.report.specs.declared.report.Address.{Address}
-use Rattle.report.specs.Lawful.{same}
+use Rattle.report.proofs.Addresses.{same_address}
 use Rattle.rules.specs.declared.connection.Connection.{Connection}
-use Rattle.report.proofs.Addresses.{same_address, same_self}
-use Rattle.invariants.proofs.Fitness.{each_stays_fit}
-use Rattle.invariants.proofs.Basics.{differ, none_some, and_left, and_right}
+use Rattle.rules.specs.Limits.{connections}
+use Rattle.invariants.proofs.Basics.{differ, some_same, and_left, and_right}
 use Rattle.table.specs.declared.place.Place.{Place}
-use Rattle.table.specs.Places.{holds, within, find, first_where, index, vacancy, used, alone, distinct, fit_place}
+use Rattle.table.specs.Places.{holds, within, find, in_place, is_free, used, alone, distinct}
 
-none : {n : ℕ} → suc n ≤ 0 → ⊥
-none h = omega arith
-
-none_is : {X : Type 0} (o : Option X) → is_some o ≡ false → o ≡ None
-none_is None e = refl
-none_is (Some x) e = absurd (differ (sym e))
-
-likewise : (x a : Address) (s : Option Place) → same x a ≡ true → holds x s ≡ holds a s
-likewise x a s e = ap (λ y. holds y s) (same_address x a e)
-
-other : (x a : Address) (s : Option Place) → same x a ≡ false → holds a s ≡ true → holds x s ≡ false
-other x a None n h = refl
-other x a (Some p) n h = go (same x p.address) refl
+-- where `position` finds none, no place passes
+pub nowhere : (test : Option Place → Bool) (ss : List (Option Place)) → position test ss ≡ None → (k : ℕ) → k < length ss → test (get_or ss k None) ≡ false
+nowhere test ss e k l = fails_before_first test ss k None (by (ltb (position_or_len test ss) (length ss)) refl e)
   where
-    go : (b : Bool) → same x p.address ≡ b → b ≡ false
-    go true e = let u : x ≡ a = same_address x p.address e ∙ sym (same_address a p.address h) in absurd (differ (sym n ∙ (ap (λ y. same y a) u ∙ same_self a)))
-    go false e = refl
+    by : (b : Bool) → ltb (position_or_len test ss) (length ss) ≡ b → cond b (Some (position_or_len test ss)) None ≡ None → k < position_or_len test ss
+    by true q e = cc
+    by false q e = grind (arith, nat_tests)
 
--- what stands at the place of an address
-pub find_some : (ss : List (Option Place)) (a : Address) → index ss a < length ss → find ss a ≡ within (get_or ss (index ss a) None)
-find_some [] a h = absurd (none h)
-find_some (s ∷ ss) a h = go (holds a s) h (find_some ss a)
+pub held_nowhere : (a : Address) (ss : List (Option Place)) → position (holds a) ss ≡ None → (k : ℕ) → holds a (get_or ss k None) ≡ false
+held_nowhere a ss e k = ⊎_elim (nowhere (holds a) ss e k) (λ l. ap (holds a) (get_or_past ss k None l)) (split k (length ss))
   where
-    go : (b : Bool) → cond b 0 (suc (index ss a)) < suc (length ss) → (index ss a < length ss → find ss a ≡ within (get_or ss (index ss a) None)) → cond b (within s) (find ss a) ≡ within (get_or (s ∷ ss) (cond b 0 (suc (index ss a))) None)
-    go true l ih = refl
-    go false l ih = ih (omega arith)
-
-pub find_none : (ss : List (Option Place)) (a : Address) → length ss ≤ index ss a → find ss a ≡ None
-find_none [] a h = refl
-find_none (s ∷ ss) a h = go (holds a s) h (find_none ss a)
-  where
-    go : (b : Bool) → suc (length ss) ≤ cond b 0 (suc (index ss a)) → (length ss ≤ index ss a → find ss a ≡ None) → cond b (within s) (find ss a) ≡ None
-    go true l ih = absurd (none l)
-    go false l ih = ih (omega arith)
-
-pub index_holds : (ss : List (Option Place)) (a : Address) → index ss a < length ss → holds a (get_or ss (index ss a) None) ≡ true
-index_holds [] a h = absurd (none h)
-index_holds (s ∷ ss) a h = go (holds a s) refl h (index_holds ss a)
-  where
-    go : (b : Bool) → holds a s ≡ b → cond b 0 (suc (index ss a)) < suc (length ss) → (index ss a < length ss → holds a (get_or ss (index ss a) None) ≡ true) → holds a (get_or (s ∷ ss) (cond b 0 (suc (index ss a))) None) ≡ true
-    go true e l ih = e
-    go false e l ih = ih (omega arith)
+    split : (m n : ℕ) → (m < n) ⊎ (n ≤ m)
+    split m n = grind arith
 
 -- a place with the address a
-pub held_at : (s : Option Place) (a : Address) → holds a s ≡ true → (p : Place) × (s ≡ Some p) × (p.address ≡ a)
-held_at None a e = absurd (differ e)
-held_at (Some p) a e = (p, refl, sym (same_address a p.address e))
+pub held_at : (a : Address) (s : Option Place) → holds a s ≡ true → (p : Place) × (s ≡ Some p) × (p.address ≡ a)
+held_at a None e = cc
+held_at a (Some p) e = (p, refl, sym (same_address a p.address e))
 
--- a place where there is one is found
-found_below : (ss : List (Option Place)) (i : ℕ) (p : Place) → i < length ss → get_or ss i None ≡ Some p → is_some (find ss p.address) ≡ true
-found_below [] i p h e = absurd (none_some e)
-found_below (s ∷ ss) zero p h e = rw e (rw (same_self p.address))
-found_below (s ∷ ss) (suc i) p h e = go s (holds p.address s) refl (found_below ss i p (omega arith) e)
+-- what is found at an address
+pub find_at : (a : Address) (ss : List (Option Place)) (i : ℕ) → position (holds a) ss ≡ Some i → find ss a ≡ within (get_or ss i None)
+find_at a ss i e = let k = position-Some (holds a) ss i None e in found_at (λ ss. find ss a) (holds a) within None refl (λ _ _. refl) ss i None k.0 k.2 k.1
+
+pub find_nowhere : (a : Address) (ss : List (Option Place)) → ((k : ℕ) → holds a (get_or ss k None) ≡ false) → find ss a ≡ None
+find_nowhere a ss h = found_nowhere (λ ss. find ss a) (holds a) within None refl (λ _ _. refl) ss None (λ k l. h k)
+
+-- a place with the connection that may be at an address
+pub record Bears (a : Address) (o : Option Connection) (s : Option Place) : Type 0 where
+  pub same : within s ≡ o
+  pub at : (p : Place) → s ≡ Some p → p.address ≡ a
+
+-- the place that is read at an address
+pub read : (ss : List (Option Place)) (a : Address) (i : Option ℕ) (o : Option Place) → i ≡ position (holds a) ss → o ≡ in_place ss i → Bears a (find ss a) o
+read ss a None o e h = record { same = ap within h ∙ sym (find_nowhere a ss (held_nowhere a ss (sym e))); at = λ p q. cc }
+read ss a (Some i) o e h =
+    let q = held_at a (get_or ss i None) (position-Some (holds a) ss i None (sym e)).1 in
+    record {
+      same = ap within h ∙ sym (find_at a ss i (sym e));
+      at = λ p r. ap (λ (p : Place). p.address) (some_same (sym r ∙ (h ∙ q.1))) ∙ q.2;
+    }
+
+-- what a place with the address holds is found, if not at another place
+found : (a : Address) (ss : List (Option Place)) (k : ℕ) → holds a (get_or ss k None) ≡ true → is_some (find ss a) ≡ true
+found a [] k e = cc
+found a (s ∷ ss) zero e = let q = held_at a s e in ap (λ b. is_some (cond b (within s) (find ss a))) e ∙ ap (λ s. is_some (within s)) q.1
+found a (s ∷ ss) (suc k) e = by s (holds a s) refl (found a ss k e)
   where
-    go : (s : Option Place) (b : Bool) → holds p.address s ≡ b → is_some (find ss p.address) ≡ true → is_some (cond b (within s) (find ss p.address)) ≡ true
-    go None true q ih = absurd (differ q)
-    go (Some x) true q ih = refl
-    go s false q ih = ih
+    by : (s : Option Place) (b : Bool) → holds a s ≡ b → is_some (find ss a) ≡ true → is_some (cond b (within s) (find ss a)) ≡ true
+    by None true q f = cc
+    by (Some p) true q f = refl
+    by s false q f = f
 
-pub index_of : (ss : List (Option Place)) (i : ℕ) (p : Place) → distinct ss ≡ true → i < length ss → get_or ss i None ≡ Some p → index ss p.address ≡ i
-index_of [] i p s h e = absurd (none_some e)
-index_of (s ∷ ss) zero p d h e = rw e (rw (same_self p.address))
-index_of (s ∷ ss) (suc i) p d h e = go s (holds p.address s) refl (and_left (alone s ss) (distinct ss) d) (found_below ss i p (omega arith) e) (index_of ss i p (and_right (alone s ss) (distinct ss) d) (omega arith) e)
-  where
-    go : (s : Option Place) (b : Bool) → holds p.address s ≡ b → alone s ss ≡ true → is_some (find ss p.address) ≡ true → index ss p.address ≡ i → cond b 0 (suc (index ss p.address)) ≡ suc i
-    go None true q al f ih = absurd (differ q)
-    go (Some x) true q al f ih =
-        let u = same_address p.address x.address q in
-        let v : is_some (find ss x.address) ≡ true = ap (λ y. is_some (find ss y)) (sym u) ∙ f in
-        absurd (differ (ap not (sym v) ∙ al))
-    go s false q al f ih = ap suc ih
+-- no place further on has the address of this one
+twice : (a : Address) (s : Option Place) (ss : List (Option Place)) (k : ℕ) → alone s ss ≡ true → holds a s ≡ true → holds a (get_or ss k None) ≡ true → ⊥
+twice a None ss k al p q = differ p
+twice a (Some x) ss k al p q = differ (ap not (sym (found a ss k q)) ∙ (ap (λ b. not (is_some (find ss b))) (same_address a x.address p) ∙ al))
 
--- a search by place: found, not yet found, and not found
-module _ (test : Option Place → Bool) (ss : List (Option Place)) (i n : ℕ) where
-  pub where_here : (d : Option Place) → i < length ss → test (get_or ss i d) ≡ true → i + first_where test (drop i ss) ≡ n → i ≡ n
-  where_here d lt is h =
-      let e : first_where test (drop i ss) ≡ cond (test (get_or ss i d)) 0 (suc (first_where test (drop (i + 1) ss))) = at_drop_more (first_where test) ss i d lt in
-      let f : cond (test (get_or ss i d)) 0 (suc (first_where test (drop (i + 1) ss))) ≡ 0 = rw is in
-      omega arith
+-- two places with one address are one
+pub one_place : (a : Address) (ss : List (Option Place)) (i k : ℕ) → distinct ss ≡ true → holds a (get_or ss i None) ≡ true → holds a (get_or ss k None) ≡ true → i ≡ k
+one_place a [] i k d p q = cc
+one_place a (s ∷ ss) zero zero d p q = refl
+one_place a (s ∷ ss) zero (suc k) d p q = absurd (twice a s ss k (and_left (alone s ss) (distinct ss) d) p q)
+one_place a (s ∷ ss) (suc i) zero d p q = absurd (twice a s ss i (and_left (alone s ss) (distinct ss) d) q p)
+one_place a (s ∷ ss) (suc i) (suc k) d p q = ap suc (one_place a ss i k (and_right (alone s ss) (distinct ss) d) p q)
 
-  pub where_next : (d : Option Place) → i < length ss → test (get_or ss i d) ≡ false → i + first_where test (drop i ss) ≡ n → (i + 1) + first_where test (drop (i + 1) ss) ≡ n
-  where_next d lt is h =
-      let e : first_where test (drop i ss) ≡ cond (test (get_or ss i d)) 0 (suc (first_where test (drop (i + 1) ss))) = at_drop_more (first_where test) ss i d lt in
-      let f : cond (test (get_or ss i d)) 0 (suc (first_where test (drop (i + 1) ss))) ≡ suc (first_where test (drop (i + 1) ss)) = rw is in
-      omega arith
-
-  pub where_end : length ss ≤ i → i + first_where test (drop i ss) ≡ n → i ≡ n
-  where_end le h = let e : first_where test (drop i ss) ≡ 0 = at_drop_all (first_where test) ss i le in omega arith
-
-pub found : (ss : List (Option Place)) (a : Address) → is_some (find ss a) ≡ true → index ss a < length ss
-found [] a e = absurd (differ e)
-found (s ∷ ss) a e = go (holds a s) e (found ss a)
-  where
-    go : (b : Bool) → is_some (cond b (within s) (find ss a)) ≡ true → (is_some (find ss a) ≡ true → index ss a < length ss) → cond b 0 (suc (index ss a)) < suc (length ss)
-    go true e ih = omega arith
-    go false e ih = let k = ih e in omega arith
-
-pub full_up : (ss : List (Option Place)) → length ss ≤ vacancy ss → used ss ≡ length ss
-full_up [] h = refl
-full_up (None ∷ ss) h = absurd (none h)
-full_up (Some p ∷ ss) h = let ih = full_up ss (omega arith) in omega arith
-
-pub taken_most : (ss : List (Option Place)) → used ss ≤ length ss
+-- how many places are taken
+taken_most : (ss : List (Option Place)) → used ss ≤ length ss
 taken_most [] = omega arith
 taken_most (None ∷ ss) = let ih = taken_most ss in omega arith
 taken_most (Some p ∷ ss) = let ih = taken_most ss in omega arith
 
-pub room_left : (ss : List (Option Place)) → vacancy ss < length ss → used ss < length ss
-room_left [] h = absurd (none h)
-room_left (None ∷ ss) h = let m = taken_most ss in omega arith
-room_left (Some p ∷ ss) h = let ih = room_left ss (omega arith) in omega arith
+full_up : (ss : List (Option Place)) → ((k : ℕ) → k < length ss → is_free (get_or ss k None) ≡ false) → used ss ≡ length ss
+full_up [] h = refl
+full_up (None ∷ ss) h = let n = h 0 (omega arith) in cc
+full_up (Some p ∷ ss) h = let ih = full_up ss (λ k l. h (suc k) (omega arith)) in omega arith
 
-pub vacant_one : (ss : List (Option Place)) → used ss < length ss → vacancy ss < length ss
-vacant_one [] h = absurd (none h)
-vacant_one (None ∷ ss) h = omega arith
-vacant_one (Some p ∷ ss) h = let ih = vacant_one ss (omega arith) in omega arith
+room_left : (ss : List (Option Place)) (k : ℕ) → k < length ss → is_free (get_or ss k None) ≡ true → used ss < length ss
+room_left [] k l e = absurd (omega arith)
+room_left (None ∷ ss) k l e = let m = taken_most ss in omega arith
+room_left (Some p ∷ ss) zero l e = cc
+room_left (Some p ∷ ss) (suc k) l e = let ih = room_left ss k (omega arith) e in omega arith
 
--- What is at the address a becomes v.
-module _ (a : Address) (v : Option Connection) where
-  -- past a place that has not the address a
-  past : (x : Address) (s : Option Place) (now before : Option Connection) → holds a s ≡ false → now ≡ cond (same x a) v before → cond (holds x s) (within s) now ≡ cond (same x a) v (cond (holds x s) (within s) before)
-  past x s now before p k = by (same x a) refl k
-    where
-      by : (b : Bool) → same x a ≡ b → now ≡ cond b v before → cond (holds x s) (within s) now ≡ cond b v (cond (holds x s) (within s) before)
-      by true e k = rw (likewise x a s e ∙ p) k
-      by false e k = ap (λ o. cond (holds x s) (within s) o) k
+pub is_full : (ss : List (Option Place)) (o : Option ℕ) → length ss ≡ connections → o ≡ position is_free ss → not (is_some o) ≡ nat_le connections (used ss)
+is_full ss None h e = let u = full_up ss (nowhere is_free ss (sym e)) in let v : nat_le connections (used ss) ≡ true = grind (arith, nat_tests) in sym v
+is_full ss (Some i) h e = let p = position-Some is_free ss i None (sym e) in let u = room_left ss i p.0 p.1 in let v : nat_le connections (used ss) ≡ false = grind (arith, nat_tests) in sym v
 
-  alone_past : (s : Option Place) (ss now : List (Option Place)) → holds a s ≡ false → ((x : Address) → find now x ≡ cond (same x a) v (find ss x)) → alone s ss ≡ true → alone s now ≡ true
-  alone_past None ss now p f al = refl
-  alone_past (Some q) ss now p f al = by (same q.address a) refl (f q.address)
-    where
-      by : (b : Bool) → same q.address a ≡ b → find now q.address ≡ cond b v (find ss q.address) → not (is_some (find now q.address)) ≡ true
-      by true e k = let u = same_address q.address a e in absurd (differ (sym p ∙ (ap (λ y. same a y) u ∙ same_self a)))
-      by false e k = ap (λ o. not (is_some o)) k ∙ al
-
--- The connection c at the address a, in its place or in the first free one.
-module _ (a : Address) (c : Connection) where
-  abbrev pub new_one : Option Place
-  new_one = Some (record { address = a; connection = c })
-
-  pub find_change : (ss : List (Option Place)) (x : Address) → index ss a < length ss → find (set ss (index ss a) new_one) x ≡ cond (same x a) (Some c) (find ss x)
-  find_change [] x h = absurd (none h)
-  find_change (s ∷ ss) x h = go (holds a s) refl h (find_change ss x)
-    where
-      go : (b : Bool) → holds a s ≡ b → cond b 0 (suc (index ss a)) < suc (length ss) → (index ss a < length ss → find (set ss (index ss a) new_one) x ≡ cond (same x a) (Some c) (find ss x)) → find (set (s ∷ ss) (cond b 0 (suc (index ss a))) new_one) x ≡ cond (same x a) (Some c) (find (s ∷ ss) x)
-      go true p l ih = by (same x a) refl
-        where
-          by : (b : Bool) → same x a ≡ b → cond b (Some c) (find ss x) ≡ cond b (Some c) (cond (holds x s) (within s) (find ss x))
-          by true e = refl
-          by false e = rw (other x a s e p)
-      go false p l ih = past a (Some c) x s (find (set ss (index ss a) new_one) x) (find ss x) p (ih (omega arith))
-
-  pub used_change : (ss : List (Option Place)) → index ss a < length ss → used (set ss (index ss a) new_one) ≡ used ss
-  used_change [] h = absurd (none h)
-  used_change (s ∷ ss) h = go s (holds a s) refl h (used_change ss)
-    where
-      go : (s : Option Place) (b : Bool) → holds a s ≡ b → cond b 0 (suc (index ss a)) < suc (length ss) → (index ss a < length ss → used (set ss (index ss a) new_one) ≡ used ss) → used (set (s ∷ ss) (cond b 0 (suc (index ss a))) new_one) ≡ used (s ∷ ss)
-      go None true p l ih = absurd (differ p)
-      go (Some q) true p l ih = refl
-      go s false p l ih = ap (λ n. cond (is_some s) 1 0 + n) (ih (omega arith))
-
-  pub distinct_change : (ss : List (Option Place)) → index ss a < length ss → distinct ss ≡ true → distinct (set ss (index ss a) new_one) ≡ true
-  distinct_change [] h d = absurd (none h)
-  distinct_change (s ∷ ss) h d = go s (holds a s) refl h (and_left (alone s ss) (distinct ss) d) (and_right (alone s ss) (distinct ss) d) (distinct_change ss)
-    where
-      go : (s : Option Place) (b : Bool) → holds a s ≡ b → cond b 0 (suc (index ss a)) < suc (length ss) → alone s ss ≡ true → distinct ss ≡ true → (index ss a < length ss → distinct ss ≡ true → distinct (set ss (index ss a) new_one) ≡ true) → distinct (set (s ∷ ss) (cond b 0 (suc (index ss a))) new_one) ≡ true
-      go None true p l al d ih = absurd (differ p)
-      go (Some q) true p l al d ih = let u = same_address a q.address p in ap (λ y. not (is_some (find ss y)) && distinct ss) u ∙ (ap (λ b. b && distinct ss) al ∙ d)
-      go s false p l al d ih = ap (λ b. b && distinct (set ss (index ss a) new_one)) (alone_past a (Some c) s ss (set ss (index ss a) new_one) p (λ x. find_change ss x (omega arith)) al) ∙ ih (omega arith) d
-
-  -- no place had the address a
-  not_held : (p : Place) (ss : List (Option Place)) → find (Some p ∷ ss) a ≡ None → (same a p.address ≡ false) × (find ss a ≡ None)
-  not_held p ss e = go (same a p.address) refl e
-    where
-      go : (b : Bool) → same a p.address ≡ b → cond b (Some p.connection) (find ss a) ≡ None → (same a p.address ≡ false) × (find ss a ≡ None)
-      go true q e = absurd (none_some (sym e))
-      go false q e = (q, e)
-
-  pub find_occupy : (ss : List (Option Place)) (x : Address) → find ss a ≡ None → vacancy ss < length ss → find (set ss (vacancy ss) new_one) x ≡ cond (same x a) (Some c) (find ss x)
-  find_occupy [] x f h = absurd (none h)
-  find_occupy (None ∷ ss) x f h = refl
-  find_occupy (Some p ∷ ss) x f h = let n = not_held p ss f in past a (Some c) x (Some p) (find (set ss (vacancy ss) new_one) x) (find ss x) n.0 (find_occupy ss x n.1 (omega arith))
-
-  pub used_occupy : (ss : List (Option Place)) → vacancy ss < length ss → used (set ss (vacancy ss) new_one) ≡ used ss + 1
-  used_occupy [] h = absurd (none h)
-  used_occupy (None ∷ ss) h = omega arith
-  used_occupy (Some p ∷ ss) h = let ih = used_occupy ss (omega arith) in omega arith
-
-  pub distinct_occupy : (ss : List (Option Place)) → find ss a ≡ None → vacancy ss < length ss → distinct ss ≡ true → distinct (set ss (vacancy ss) new_one) ≡ true
-  distinct_occupy [] f h d = absurd (none h)
-  distinct_occupy (None ∷ ss) f h d = ap (λ o. not (is_some o) && distinct ss) f ∙ d
-  distinct_occupy (Some p ∷ ss) f h d =
-      let n = not_held p ss f in
-      let al = and_left (alone (Some p) ss) (distinct ss) d in
-      let ds = and_right (alone (Some p) ss) (distinct ss) d in
-      ap (λ b. b && distinct (set ss (vacancy ss) new_one)) (alone_past a (Some c) (Some p) ss (set ss (vacancy ss) new_one) n.0 (λ x. find_occupy ss x n.1 (omega arith)) al) ∙ distinct_occupy ss n.1 (omega arith) ds
-
--- The place of the address a is freed.
-module _ (a : Address) where
-  gone : (s : Option Place) (ss : List (Option Place)) → holds a s ≡ true → alone s ss ≡ true → find ss a ≡ None
-  gone None ss p al = absurd (differ p)
-  gone (Some q) ss p al = none_is (find ss a) (un (is_some (find ss a)) (ap (λ y. not (is_some (find ss y))) (same_address a q.address p) ∙ al))
-    where
-      un : (b : Bool) → not b ≡ true → b ≡ false
-      un true e = sym e
-      un false e = refl
-
-  pub find_vacate : (ss : List (Option Place)) (x : Address) → distinct ss ≡ true → index ss a < length ss → find (set ss (index ss a) None) x ≡ cond (same x a) None (find ss x)
-  find_vacate [] x d h = absurd (none h)
-  find_vacate (s ∷ ss) x d h = go (holds a s) refl h (and_left (alone s ss) (distinct ss) d) (find_vacate ss x (and_right (alone s ss) (distinct ss) d))
-    where
-      go : (b : Bool) → holds a s ≡ b → cond b 0 (suc (index ss a)) < suc (length ss) → alone s ss ≡ true → (index ss a < length ss → find (set ss (index ss a) None) x ≡ cond (same x a) None (find ss x)) → find (set (s ∷ ss) (cond b 0 (suc (index ss a))) None) x ≡ cond (same x a) None (find (s ∷ ss) x)
-      go true p l al ih = by (same x a) refl
-        where
-          by : (b : Bool) → same x a ≡ b → find ss x ≡ cond b None (cond (holds x s) (within s) (find ss x))
-          by true e = ap (find ss) (same_address x a e) ∙ gone s ss p al
-          by false e = rw (other x a s e p)
-      go false p l al ih = past a None x s (find (set ss (index ss a) None) x) (find ss x) p (ih (omega arith))
-
-  pub used_vacate : (ss : List (Option Place)) → index ss a < length ss → used (set ss (index ss a) None) + 1 ≡ used ss
-  used_vacate [] h = absurd (none h)
-  used_vacate (s ∷ ss) h = go s (holds a s) refl h (used_vacate ss)
-    where
-      go : (s : Option Place) (b : Bool) → holds a s ≡ b → cond b 0 (suc (index ss a)) < suc (length ss) → (index ss a < length ss → used (set ss (index ss a) None) + 1 ≡ used ss) → used (set (s ∷ ss) (cond b 0 (suc (index ss a))) None) + 1 ≡ used (s ∷ ss)
-      go None true p l ih = absurd (differ p)
-      go (Some q) true p l ih = omega arith
-      go s false p l ih = let k = ih (omega arith) in omega arith
-
-  pub distinct_vacate : (ss : List (Option Place)) → index ss a < length ss → distinct ss ≡ true → distinct (set ss (index ss a) None) ≡ true
-  distinct_vacate [] h d = absurd (none h)
-  distinct_vacate (s ∷ ss) h d = go (holds a s) refl h (and_left (alone s ss) (distinct ss) d) (and_right (alone s ss) (distinct ss) d) (distinct_vacate ss)
-    where
-      go : (b : Bool) → holds a s ≡ b → cond b 0 (suc (index ss a)) < suc (length ss) → alone s ss ≡ true → distinct ss ≡ true → (index ss a < length ss → distinct ss ≡ true → distinct (set ss (index ss a) None) ≡ true) → distinct (set (s ∷ ss) (cond b 0 (suc (index ss a))) None) ≡ true
-      go true p l al d ih = d
-      go false p l al d ih = ap (λ b. b && distinct (set ss (index ss a) None)) (alone_past a None s ss (set ss (index ss a) None) p (λ x. find_vacate ss x d (omega arith)) al) ∙ ih (omega arith) d
-
--- every place stays fit as the clock goes on, where the new one is
-pub fit_set : (clock t : ℕ) (ss : List (Option Place)) (n : ℕ) (o : Option Place) → clock ≤ t → n < length ss → fit_place t o ≡ true → ((k : ℕ) → fit_place clock (get_or ss k None) ≡ true) → (k : ℕ) → fit_place t (get_or (set ss n o) k None) ≡ true
-fit_set clock t ss n o on lt is h k =
-    ⊎_elim
-    (λ p. subst (λ j. fit_place t (get_or (set ss n o) j None) ≡ true) (sym p.1) (ap (fit_place t) (get_or-set_same ss n o None lt) ∙ is))
-    (λ q. ap (fit_place t) (get_or-set_other ss n k o None q.1) ∙ later (get_or ss k None) (h k))
-    (eqb_tells k n)
-  where
-    later : (s : Option Place) → fit_place clock s ≡ true → fit_place t s ≡ true
-    later None e = refl
-    later (Some p) e = each_stays_fit.later clock t p.address (Some p.connection) on e
-
--- what stands at the place of an address
-pub read_at : (ss : List (Option Place)) (a : Address) (n : ℕ) (o : Option Connection) → n ≡ index ss a → o ≡ within (get_or ss n None) → o ≡ find ss a
-read_at ss a n o e h = h ∙ (ap (λ m. within (get_or ss m None)) e ∙ ⊎_elim (λ l. sym (find_some ss a l)) (λ l. ap within (get_or_past ss (index ss a) None l) ∙ sym (find_none ss a l)) (split (index ss a) (length ss)))
-  where
-    split : (m n : ℕ) → (m < n) ⊎ (n ≤ m)
-    split m n = grind arith
+-- where there is room, a place is free
+pub has_free : (ss : List (Option Place)) (o : Option ℕ) → o ≡ position is_free ss → used ss < length ss → is_some o ≡ true
+has_free ss (Some i) e l = refl
+has_free ss None e l = let u = full_up ss (nowhere is_free ss (sym e)) in absurd (omega arith)

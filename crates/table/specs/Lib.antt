@@ -1,4 +1,2 @@
-pub mod Values
 pub mod Places
 pub mod State
-pub mod Search

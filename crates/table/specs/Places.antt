@@ -1,5 +1,5 @@
 -- Places with connections, by address. Assumes nothing.
-use Rattle.std.specs.Prelude.{ℕ, suc, ◌+◌, Bool, true, false, cond, not, ◌&&◌, List, [], ◌∷◌, is_some, Some, None, Option}
+use Rattle.std.specs.Prelude.{ℕ, ◌+◌, Bool, true, false, cond, not, ◌&&◌, List, [], ◌∷◌, slice_index_or, is_some, Some, None, Option}
 use Rattle.report.specs.declared.report.Address.{Address}
 use Rattle.report.specs.Lawful.{same}
 use Rattle.rules.specs.declared.connection.Connection.{Connection}
@@ -21,22 +21,14 @@ abbrev pub find : List (Option Place) → Address → Option Connection
 find [] a = None
 find (s ∷ ss) a = cond (holds a s) (within s) (find ss a)
 
--- the first place for which the test holds, or the number of places where there is none
-abbrev pub first_where : (Option Place → Bool) → List (Option Place) → ℕ
-first_where test [] = 0
-first_where test (s ∷ ss) = cond (test s) 0 (suc (first_where test ss))
-
--- the place of an address, or the number of places where it has none
-abbrev pub index : List (Option Place) → Address → ℕ
-index ss a = first_where (holds a) ss
+-- what stands in a place; nothing where there is no such place
+abbrev pub in_place : List (Option Place) → Option ℕ → Option Place
+in_place ss None = None
+in_place ss (Some i) = slice_index_or ss i None
 
 -- whether a place is free
 abbrev pub is_free : Option Place → Bool
 is_free s = not (is_some s)
-
--- the first free place, or the number of places where there is none
-abbrev pub vacancy : List (Option Place) → ℕ
-vacancy ss = first_where is_free ss
 
 -- how many places are taken
 abbrev pub used : List (Option Place) → ℕ

@@ -17,10 +17,10 @@ use Rattle.rules.specs.Limits.{connections}
 use Rattle.rules.specs.Reports.{listed}
 use Rattle.rules.specs.Rows.{untimely}
 use Rattle.rules.specs.Rules.{bit, rule}
-use Rattle.rules.specs.Sound.{sound}
 use Rattle.table.specs.declared.place.Place.{Place}
 use Rattle.table.specs.declared.place.Outcome.{Outcome}
 use Rattle.table.specs.declared.table.Table.{Table}
+use Rattle.table.specs.declared.tick.Tick.{Tick}
 use Rattle.table.specs.Places.{find, used}
 
 -- the core of a clock, a wait and places
@@ -39,10 +39,15 @@ moved t a o s = record { clock = t; wait = s.wait; at = put s.at a o; count = (s
 abbrev pub heads : ℕ → Address → Bool → Core → List (Bool × Refusal)
 heads t a in_range s = untimely t s ∷ (not (lawful_address a && in_range), OutOfRange) ∷ (is_some (earliest (dues_at s) t), ItemDue) ∷ []
 
--- the numbers of the connection that may be there are within their types
-abbrev pub sound_in : Option Connection → Bool
-sound_in None = true
-sound_in (Some c) = sound c
+-- x where nothing refuses, else the refusal
+abbrev pub admitted : {X : Type 0} → X → Option Refusal → Result X Refusal
+admitted x None = Ok x
+admitted x (Some e) = Err e
+
+-- the tick of a call, or its refusal
+abbrev pub tick_of : Result Tick Refusal → Result ℕ Refusal
+tick_of (Ok t) = Ok t.at
+tick_of (Err e) = Err e
 
 -- a new connection has a place, and only one that is there ends
 abbrev pub RoomFor : Bool → ℕ → Option Connection → Type 0

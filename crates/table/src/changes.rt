@@ -1,16 +1,17 @@
 // What an admitted operation makes of a connection.
-ghost use Rattle.std.specs.Prelude.{◌≡◌, ◌<◌, ◌≤◌, true, None};
-ghost use Rattle.report.specs.Limits.{last_tick};
+ghost use Rattle.std.specs.Prelude.{◌≡◌, ◌<◌, true, None};
+ghost use Rattle.std.specs.Option.{option_copied};
+ghost use Rattle.rules.specs.declared.call.Operation.TheVariants.{Instruct};
 ghost use Rattle.rules.specs.Changes.{fresh, continued, instructed, stored, advised, answered, confirmed, by_operation};
 ghost use Rattle.rules.specs.Core.{answered_at};
-ghost use Rattle.rules.specs.Limits.{longest_period, longest_switch, most_instructions};
+ghost use Rattle.rules.specs.Limits.{most_instructions};
 ghost use Rattle.rules.specs.Ranges.{second_fits, fits};
 ghost use Rattle.rules.specs.Rows.{operation_rows, first};
-ghost use Rattle.rules.specs.Sound.{at_most, period_fits};
-ghost use Rattle.table.specs.State.{sound_in};
-ghost use Rattle.std.specs.Option.{option_map};
+ghost use Rattle.table.specs.Places.{within};
 
 use crate::periods::{advise_dues, answer_dues, instruct_dues, open_period};
+use crate::place::Place;
+use crate::tick::Tick;
 use rules::{
     Advice, Connection, Dues, EValues, Grant, Instruction, Meter, Operation, Stage, StoredSets,
 };
@@ -20,8 +21,7 @@ pub(crate) fn answer_tick(stage: &Stage) -> Option<u32>
     ensures { result ≡ answered_at stage.now }
 {
     match stage {
-        Stage::Consultation => None,
-        Stage::Waiting => None,
+        Stage::Consultation | Stage::Waiting => None,
         Stage::Answered(tick) => Some(*tick),
     }
 }
@@ -70,26 +70,28 @@ fn go_on(c: &Connection) -> Connection
 }
 
 // Answer: an open period starts, and a stored first set is ordered.
-fn answer(tick: u32, c: &Connection) -> Connection
-    requires { (tick ≤ last_tick) × (period_fits c.now.grant.period ≡ true) }
-    ensures { result ≡ answered tick c.now }
+fn answer(tick: Tick, place: &Place) -> Connection
+    ensures { result ≡ answered tick.at place.now.connection }
 {
+    let c = &place.connection;
     Connection {
-        stage: Stage::Answered(tick),
+        stage: Stage::Answered(tick.at),
         sets: StoredSets {
             first: None,
-            second: c.sets.second,
+            ..c.sets
         },
-        dues: answer_dues(tick, &c.grant.period, &c.dues),
+        dues: answer_dues(tick, place),
         ..*c
     }
 }
 
 // Instruct: a period opens, with no interval yet, and an awaiting report is confirmed.
-fn instruct(tick: u32, i: &Instruction, c: &Connection) -> Connection
-    requires { (tick ≤ last_tick) × ((i.now.maximum ≤ longest_period) × ((at_most longest_switch i.now.switch ≡ true) × ((at_most last_tick c.now.grant.previous ≡ true) × (c.now.grant.had < most_instructions)))) }
-    ensures { result ≡ instructed tick i.now c.now }
+fn instruct(tick: Tick, i: &Instruction, place: &Place) -> Connection
+    requires fitting { fits (Instruct i.now) ≡ true }
+    requires below { place.now.connection.grant.had < most_instructions }
+    ensures { result ≡ instructed tick.at i.now place.now.connection }
 {
+    let c = &place.connection;
     Connection {
         grant: Grant {
             had: c.grant.had + 1,
@@ -101,7 +103,7 @@ fn instruct(tick: u32, i: &Instruction, c: &Connection) -> Connection
             interval: None,
             ..c.meter
         },
-        dues: instruct_dues(answer_tick(&c.stage), c.grant.previous, tick, i, &c.dues),
+        dues: instruct_dues(tick, i, place),
         awaiting: None,
         ..*c
     }
@@ -126,25 +128,20 @@ fn store(stage: &Stage, values: EValues) -> Option<EValues>
     ensures { result ≡ stored stage.now values }
 {
     match stage {
-        Stage::Consultation => Some(values),
-        Stage::Waiting => Some(values),
+        Stage::Consultation | Stage::Waiting => Some(values),
         Stage::Answered(_) => None,
     }
 }
 
 // Advise: the sets are stored over any earlier ones.
-fn advise(tick: u32, v: &Advice, c: &Connection) -> Connection
-    requires { (tick ≤ last_tick) × (second_fits v.now.second ≡ true) }
-    ensures { result ≡ advised tick v.now c.now }
+fn advise(tick: Tick, v: &Advice, c: &Connection) -> Connection
+    requires { second_fits v.now.second ≡ true }
+    ensures { result ≡ advised tick.at v.now c.now }
 {
-    let second = match v.second {
-        Some(s) => Some(s.set),
-        None => None,
-    };
     Connection {
         sets: StoredSets {
             first: store(&c.stage, v.first),
-            second,
+            second: v.second.map(|s| s.set),
         },
         dues: advise_dues(tick, &v.second, &c.dues),
         ..*c
@@ -154,27 +151,28 @@ fn advise(tick: u32, v: &Advice, c: &Connection) -> Connection
 // What becomes of the connection at an address by an operation that is admitted.
 pub(crate) fn operate(
     operation: &Operation,
-    tick: u32,
-    o: Option<&Connection>,
+    tick: Tick,
+    place: Option<&Place>,
 ) -> Option<Connection>
-    requires { (tick ≤ last_tick) × ((fits operation.now ≡ true) × ((sound_in (option_map (λ x. x.now) o) ≡ true) × (first (operation_rows true operation.now (option_map (λ x. x.now) o) 0) ≡ None))) }
-    ensures { result ≡ by_operation operation.now tick (option_map (λ x. x.now) o.entry) }
+    requires fitting { fits operation.now ≡ true }
+    requires admitted { first (operation_rows true operation.now (within (option_copied place)) 0) ≡ None }
+    ensures { result ≡ by_operation operation.now tick.at (within (option_copied place.entry)) }
 {
-    let Some(c) = o else {
+    let Some(place) = place else {
         return match operation {
             Operation::SetUp => Some(set_up()),
             _ => None,
         };
     };
+    let c = &place.connection;
     match operation {
         Operation::SetUp => Some(set_up()),
         Operation::Continue => Some(go_on(c)),
-        Operation::Bar => None,
-        Operation::Instruct(i) => Some(instruct(tick, i, c)),
+        Operation::Instruct(i) => Some(instruct(tick, i, place)),
         Operation::Advise(v) => Some(advise(tick, v, c)),
-        Operation::Answer => Some(answer(tick, c)),
-        Operation::Disconnect => None,
+        Operation::Answer => Some(answer(tick, place)),
         Operation::Confirm(_) => Some(confirm(c)),
         Operation::Repeat => Some(*c),
+        Operation::Bar | Operation::Disconnect => None,
     }
 }

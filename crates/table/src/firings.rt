@@ -1,26 +1,24 @@
 // What the firing of a timer makes of a connection.
-ghost use Rattle.std.specs.Prelude.{◌≡◌, ◌≤◌, true};
-ghost use Rattle.report.specs.Limits.{last_tick};
+ghost use Rattle.std.specs.Prelude.{◌≡◌, ◌≤◌, Some};
 ghost use Rattle.rules.specs.Changes.{switched, taken_over, changed_over, sounded, closed, by_timer};
-ghost use Rattle.rules.specs.Limits.{most_instructions, most_switches, longest_wait};
-ghost use Rattle.table.specs.State.{sound_in};
-ghost use Rattle.std.specs.Option.{option_map};
+ghost use Rattle.rules.specs.Limits.{longest_wait};
 
-use crate::changes::answer_tick;
+use crate::place::Place;
 use crate::reports::{interval_to, is_releasing, make};
-use report::{Address, Standing};
-use rules::{Connection, Dues, Grant, Meter, Stage, StoredSets, Timer};
+use crate::tick::Tick;
+use report::Standing;
+use rules::{Connection, Dues, Grant, Item, Meter, Stage, StoredSets, Timer};
 
 // A tariff switch counts one switch at its due tick, and after the answer an interval ends with it.
-fn switch_over(asof: u32, c: &Connection) -> Connection
-    requires { c.now.meter.switches ≤ most_switches }
-    ensures { result ≡ switched asof c.now }
+fn switch_over(asof: u32, place: &Place) -> Connection
+    ensures { result ≡ switched asof place.now.connection }
 {
+    let c = &place.connection;
     Connection {
         meter: Meter {
             switches: c.meter.switches + 1,
             last: Some(asof),
-            interval: interval_to(answer_tick(&c.stage), c.meter.last, asof),
+            interval: interval_to(asof, c),
         },
         dues: Dues {
             tariff: None,
@@ -34,19 +32,13 @@ fn switch_over(asof: u32, c: &Connection) -> Connection
 fn take_over(stage: &Stage, sets: &StoredSets) -> StoredSets
     ensures { result ≡ taken_over stage.now sets.now }
 {
-    match stage {
-        Stage::Consultation => StoredSets {
-            first: sets.second,
-            second: None,
-        },
-        Stage::Waiting => StoredSets {
-            first: sets.second,
-            second: None,
-        },
-        Stage::Answered(_) => StoredSets {
-            first: sets.first,
-            second: None,
-        },
+    let first = match stage {
+        Stage::Consultation | Stage::Waiting => sets.second,
+        Stage::Answered(_) => sets.first,
+    };
+    StoredSets {
+        first,
+        second: None,
     }
 }
 
@@ -78,10 +70,10 @@ fn sound(c: &Connection) -> Connection
 }
 
 // A period end without the release mark closes the period, drops unspent switches, and its report awaits confirmation.
-fn close(address: Address, asof: u32, limit: u32, c: &Connection) -> Connection
-    requires { c.now.sent ≤ most_instructions }
-    ensures { result ≡ closed address asof limit c.now }
+fn close(asof: u32, limit: u32, place: &Place) -> Connection
+    ensures { result ≡ closed place.now.address asof limit place.now.connection }
 {
+    let c = &place.connection;
     Connection {
         grant: Grant {
             period: None,
@@ -93,8 +85,8 @@ fn close(address: Address, asof: u32, limit: u32, c: &Connection) -> Connection
             ..c.meter
         },
         sets: StoredSets {
-            first: c.sets.first,
             second: None,
+            ..c.sets
         },
         dues: Dues {
             tariff: None,
@@ -104,35 +96,26 @@ fn close(address: Address, asof: u32, limit: u32, c: &Connection) -> Connection
             limit: Some(limit),
         },
         sent: c.sent + 1,
-        awaiting: Some(make(address, asof, Standing::Active, c)),
+        awaiting: Some(make(asof, Standing::Active, place)),
         ..*c
     }
 }
 
-// What becomes of the connection at an address by a timer that is due at `asof` and fired at `tick`.
-pub(crate) fn fire_timer(
-    wait: u32,
-    timer: Timer,
-    address: Address,
-    asof: u32,
-    tick: u32,
-    o: Option<&Connection>,
-) -> Option<Connection>
-    requires { (tick ≤ last_tick) × ((wait ≤ longest_wait) × (sound_in (option_map (λ x. x.now) o) ≡ true)) }
-    ensures { result ≡ by_timer wait timer address asof tick (option_map (λ x. x.now) o.entry) }
+// What becomes of a connection by an item of it that is fired at `tick`.
+pub(crate) fn fire_timer(wait: u32, item: &Item, tick: Tick, place: &Place) -> Option<Connection>
+    requires { wait ≤ longest_wait }
+    ensures { result ≡ by_timer wait item.now.timer place.now.address item.now.tick tick.at (Some place.now.connection) }
 {
-    let Some(c) = o else {
-        return None;
-    };
-    match timer {
-        Timer::TariffSwitch => Some(switch_over(asof, c)),
+    let c = &place.connection;
+    match item.timer {
+        Timer::TariffSwitch => Some(switch_over(item.tick, place)),
         Timer::AdviceSwitch => Some(change_over(c)),
         Timer::Sound => Some(sound(c)),
         Timer::PeriodEnd => {
             if is_releasing(&c.grant.period) {
                 None
             } else {
-                Some(close(address, asof, tick + wait, c))
+                Some(close(item.tick, tick.at + wait, place))
             }
         }
         Timer::ConfirmationLimit => None,

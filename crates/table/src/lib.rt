@@ -14,6 +14,7 @@ mod refusals;
 mod reports;
 mod search;
 pub mod table;
+mod tick;
 mod writes;
 
 pub use place::{Outcome, Place};

@@ -1,28 +1,25 @@
 // What a table holds at an address.
-ghost use Rattle.std.specs.Prelude.{◌≡◌, None, nat_le, slice_index_or};
-ghost use Rattle.std.specs.Option.{option_map};
+ghost use Rattle.std.specs.Prelude.{◌≡◌, [], ◌∷◌, nat_le, position};
+ghost use Rattle.std.specs.Option.{option_copied};
 ghost use Rattle.rules.specs.Core.{start};
 ghost use Rattle.rules.specs.Limits.{connections};
-ghost use Rattle.rules.specs.Rows.{untimely};
-ghost use Rattle.table.specs.Places.{holds, within, index, vacancy, used};
-ghost use Rattle.table.specs.State.{core_of};
+ghost use Rattle.rules.specs.Rows.{untimely, first};
+ghost use Rattle.table.specs.Places.{holds, in_place, is_free, used};
+ghost use Rattle.table.specs.State.{core_of, admitted, tick_of};
 
 use crate::place::Place;
 use crate::ranges::clamp_wait;
 use crate::table::Table;
-use report::Address;
+use crate::tick::Tick;
 use report::limits::LAST_TICK;
-use rules::Connection;
+use report::{Address, Refusal};
 use rules::limits::CONNECTIONS;
 
 // Whether a place has the address.
 fn is_at(slot: &Option<Place>, address: Address) -> bool
     ensures { result ≡ holds address slot.now }
 {
-    match slot {
-        Some(p) => address.is(p.address),
-        None => false,
-    }
+    slot.as_ref().is_some_and(|p| p.address == address)
 }
 
 impl Table {
@@ -37,54 +34,41 @@ impl Table {
         }
     }
 
-    // Whether the tick is past its limit or before the clock.
-    pub(crate) fn is_untimely(&self, tick: u32) -> bool
-        ensures { result ≡ (untimely tick (core_of self.now)).0 }
+    // The tick of a call, unless it is past its limit or before the clock.
+    pub(crate) fn timely(&self, tick: u32) -> Result<Tick, Refusal>
+        ensures { tick_of result ≡ admitted tick (first (untimely tick (core_of self.now) ∷ [])) }
     {
-        tick > LAST_TICK || tick < self.clock
+        if tick > LAST_TICK || tick < self.clock {
+            return Err(Refusal::Untimely);
+        }
+        Ok(Tick { at: tick })
     }
 
-    // The place of an address, or the number of places where it has none.
-    pub(crate) fn place_of(&self, address: Address) -> usize
-        ensures { result ≡ index self.now.slots address }
+    // The place of an address, if it has one.
+    pub(crate) fn place_of(&self, address: Address) -> Option<usize>
+        ensures { result ≡ position (holds address) self.now.slots }
     {
-        for i in 0..CONNECTIONS {
-            if is_at(&self.slots[i], address) {
-                return i;
-            }
-        }
-        CONNECTIONS
+        self.slots.iter().position(|slot| is_at(slot, address))
     }
 
-    // The first free place, or the number of places where there is none.
-    pub(crate) fn free_place(&self) -> usize
-        ensures { result ≡ vacancy self.now.slots }
+    // The first free place, if there is one.
+    pub(crate) fn free_place(&self) -> Option<usize>
+        ensures { result ≡ position is_free self.now.slots }
     {
-        for i in 0..CONNECTIONS {
-            if self.slots[i].is_none() {
-                return i;
-            }
-        }
-        CONNECTIONS
+        self.slots.iter().position(|slot| slot.is_none())
     }
 
     // Whether every place is taken.
     pub(crate) fn is_full(&self) -> bool
         ensures { result ≡ nat_le connections (used self.now.slots) }
     {
-        self.free_place() >= CONNECTIONS
+        self.free_place().is_none()
     }
 
-    // The connection in a place; none past the last place.
-    pub(crate) fn connection_in(&self, at: usize) -> Option<&Connection>
-        ensures { option_map (λ x. x.now) result ≡ within (slice_index_or self.now.slots at None) }
+    // The connection in a place, with its address.
+    pub(crate) fn place_in(&self, at: Option<usize>) -> Option<&Place>
+        ensures { option_copied result ≡ in_place self.now.slots at }
     {
-        if at >= CONNECTIONS {
-            return None;
-        }
-        match &self.slots[at] {
-            Some(p) => Some(&p.connection),
-            None => None,
-        }
+        self.slots.get(at?)?.as_ref()
     }
 }

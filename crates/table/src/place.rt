@@ -1,12 +1,16 @@
 // What a table holds in one place, and what an admitted call comes to.
+ghost use Rattle.std.specs.Prelude.{◌≡◌, true};
+ghost use Rattle.rules.specs.Sound.{sound};
+
 use report::{Address, Report};
 use rules::{Connection, Order};
 
-// A connection at its address.
+// A connection at its address. Its numbers are within their types.
 #[derive(Clone, Copy)]
 pub struct Place {
     pub address: Address,
     pub connection: Connection,
+    ghost bounded: { sound connection ≡ true },
 }
 
 // What an admitted call asks of the host, and the report that goes, if one does.

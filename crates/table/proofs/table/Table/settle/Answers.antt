@@ -1,12 +1,24 @@
-use Rattle.std.proofs.Common.{sym, ap, ◌∙◌, arith}
+use Rattle.std.proofs.Common.{sym, ap, ◌∙◌, rules}
 use Rattle.rules.specs.Fit.{fit_in}
-use Rattle.table.proofs.Moves.{room_new, room_gone}
+use Rattle.invariants.proofs.Fitness.{fit_sound}
+use Rattle.table.proofs.Moves.{goes_somewhere, sole, settles}
 use Rattle.table.proofs.table.Table.settle.Goals as goal
 
-pub insert-requires : goal.insert-requires
-insert-requires c =
-    let k = room_new c.args.self.now.slots c.args.address c.args.at c.args.next c.in-Some.c (let n = c.args.self.now.many in omega arith) c.requires.1.0 c.in-Some.is c.requires.1.1.1 in
-    (c.requires.0, (k.0, (k.1, sym (ap (fit_in c.args.tick c.args.address) c.in-Some.is) ∙ c.requires.1.1.0)))
+pub unwrap-place-requires : goal.unwrap-place-requires
+unwrap-place-requires c = goes_somewhere c.args.self.now.slots c.args.address c.args.at _ c.args.next c.args.self.now.many c.requires.placed (search rules) c.requires.room
 
-pub remove-requires : goal.remove-requires
-remove-requires c = (c.requires.0, room_gone _ _ c.args.next c.in-None.is c.requires.1.1.1)
+pub map-requires : goal.map-requires
+map-requires c = λ x e. fit_sound c.args.tick.at c.args.address x (ap (fit_in c.args.tick.at c.args.address) (sym e) ∙ c.requires.fitting)
+
+pub invariant_of-self : goal.invariant_of-self
+invariant_of-self c =
+    let t = c.args.self.now in
+    let n = sole t.slots c.args.address c.args.at c.or_else.result c.unwrap-place.result t.apart c.requires.placed (search rules) c.unwrap-place.ensures in
+    let k = settles c.args.address c.args.next c.map.result (record { same = search rules; at = λ p e. search rules }) t c.args.tick.at c.unwrap-place.result c.requires.on_time n c.requires.fitting in
+    record { many = k.many; apart = k.apart; fitting = k.fitting; patient = t.patient }
+
+pub returns : goal.returns
+returns c =
+    let t = c.args.self.now in
+    let n = sole t.slots c.args.address c.args.at c.or_else.result c.unwrap-place.result t.apart c.requires.placed (search rules) c.unwrap-place.ensures in
+    (settles c.args.address c.args.next c.map.result (record { same = search rules; at = λ p e. search rules }) t c.args.tick.at c.unwrap-place.result c.requires.on_time n c.requires.fitting).core

@@ -1,26 +1,44 @@
-use Rattle.std.proofs.Common.{◌+◌, ◌<◌, length, None, sym, ap, ◌∙◌, subst, arith}
-use Rattle.rules.specs.Dues.{item, due_of}
-use Rattle.std.proofs.lemmas.List.{get_or_default}
-use Rattle.table.proofs.Seeking.{Best, Passed, dues_of, more, onward, past_free, at_last}
+use Rattle.std.proofs.Common.{◌≡◌, ◌∷◌, None, Some, sym, ap, ◌∙◌, subst}
+use Rattle.std.specs.Slice.Iter.{iter_rest}
+use Rattle.table.proofs.Seeking.{Best, Coming, Passed, dues_of, more, onward, enter, leave, all_come, none_passed, at_last}
 use Rattle.table.proofs.table.Table.soonest.Goals as goal
-use Rattle.table.proofs.table.Table.soonest.Goals.{in-Some+then-k-ge-TIMERS, in_default}
 
 pub timers-preserved : goal.timers-preserved
 timers-preserved c =
-    let lt : c.connections.i < length c.args.self.now.slots = let n = c.args.self.now.many in omega arith in
-    more c.args.self.now.clock c.args.self.now.slots c.connections.i c.timers.k c.in-Some.place (get_or_default c.args.self.now.slots c.connections.i None _ lt ∙ c.in-Some.is) c.args.self.now.apart lt (c.args.self.now.fitting c.connections.i) c.timers.best _ _
-    (c.item_of.ensures ∙ ap (λ j. item c.in-Some.place.address j (due_of c.in-Some.place.connection.dues j)) c.nth_timer.ensures)
-    c.sooner_of-best.ensures
-    c.timers.invariant
+    let t = c.args.self.now in
+    let steps : iter_rest c.connections.slots ≡ Some c.in-Some-slot.place ∷ iter_rest c.next.new.self = c.in-Some.ensures.steps ∙ ap (λ s. s ∷ iter_rest c.next.new.self) c.in-Some-slot.is in
+    more t.clock t.slots c.in-Some-slot.place (iter_rest c.next.new.self) (subst (Coming t.clock t.slots) steps c.connections.invariant.coming) c.timers.timer-index c.timers-test.true _ c.timers.best _ _ c.item_of.ensures c.sooner_of-best.ensures c.timers.invariant
+
+pub timers-init : goal.timers-init
+timers-init c =
+    let t = c.args.self.now in
+    let steps : iter_rest c.connections.slots ≡ Some c.in-Some-slot.place ∷ iter_rest c.next.new.self = c.in-Some.ensures.steps ∙ ap (λ s. s ∷ iter_rest c.next.new.self) c.in-Some-slot.is in
+    enter t.clock t.slots c.in-Some-slot.place (iter_rest c.next.new.self) c.connections.best (subst (λ ss. Best (dues_of t.slots) (Passed ss) c.connections.best) steps c.connections.invariant.first)
 
 pub connections-preserved : goal.connections-preserved
 connections-preserved c =
-    let lt : c.connections.i < length c.args.self.now.slots = let n = c.args.self.now.many in omega arith in
-    let ss = c.args.self.now.slots in
-    elim c.match-self-i.branch [
-      | in-Some+then-k-ge-TIMERS w ↦ subst (Best (dues_of ss) (Passed ss (c.connections.i + 1) 0)) (sym w.best-is) (onward ss c.connections.i w.timers.k w.timers.best (omega arith) w.timers.invariant)
-      | in_default w ↦ subst (Best (dues_of ss) (Passed ss (c.connections.i + 1) 0)) (sym w.best-is) (past_free ss c.connections.i c.connections.best (get_or_default ss c.connections.i None _ lt ∙ w.in_default.is) c.connections.invariant)
-    ]
+    let t = c.args.self.now in
+    record {
+      coming = onward t.clock t.slots c.in-Some.slot.now (iter_rest c.next.new.self) (subst (Coming t.clock t.slots) c.in-Some.ensures.steps c.connections.invariant.coming);
+      first = leave t.clock t.slots c.in-Some-slot.place (iter_rest c.next.new.self) c.timers.timer-index c.timers.best c.timers-test.false c.timers.invariant;
+    }
+
+pub connections-preserved-in_default-slot : goal.connections-preserved-in_default-slot
+connections-preserved-in_default-slot c =
+    let t = c.args.self.now in
+    let steps : iter_rest c.connections.slots ≡ None ∷ iter_rest c.next.new.self = c.in-Some.ensures.steps ∙ ap (λ s. s ∷ iter_rest c.next.new.self) c.in_default-slot.is in
+    record {
+      coming = onward t.clock t.slots None (iter_rest c.next.new.self) (subst (Coming t.clock t.slots) steps c.connections.invariant.coming);
+      first = subst (λ ss. Best (dues_of t.slots) (Passed ss) c.connections.best) steps c.connections.invariant.first;
+    }
+
+pub connections-init : goal.connections-init
+connections-init c =
+    let t = c.args.self.now in
+    record {
+      coming = subst (Coming t.clock t.slots) (sym c.iter-slots.ensures.rest) (all_come t.clock t.slots t.apart t.fitting);
+      first = subst (λ ss. Best (dues_of t.slots) (Passed ss) None) (sym c.iter-slots.ensures.rest) (none_passed t.slots);
+    }
 
 pub returns : goal.returns
-returns c = at_last c.args.self.now.slots c.connections.i c.connections.best (let n = c.args.self.now.many in omega arith) c.connections.invariant
+returns c = at_last c.args.self.now.slots (iter_rest c.connections.slots) c.connections.best c.in_default.ensures.steps.0 c.connections.invariant.first

@@ -1,16 +1,12 @@
-use Rattle.std.proofs.Common.{◌-◌}
-use Rattle.rules.specs.Limits.{connections, timers}
-use Rattle.table.proofs.Seeking.{Best, Passed, dues_of}
+use Rattle.std.specs.Slice.Iter.{iter_rest}
+use Rattle.table.proofs.Seeking.{Best, Coming, Passed, PassedTo, dues_of}
 use Rattle.table.proofs.table.Table.soonest.Given as goal
 
 abbrev pub invariant-timers : goal.invariant-timers
-invariant-timers l = Best (dues_of l.self.slots) (Passed l.self.slots l.i l.k) l.best
-
-abbrev pub decreases-timers : goal.decreases-timers
-decreases-timers l = timers - l.k
+invariant-timers l = Best (dues_of l.self.slots) (PassedTo l.place (iter_rest l.slots) l.timer-index) l.best
 
 abbrev pub invariant-connections : goal.invariant-connections
-invariant-connections l = Best (dues_of l.self.slots) (Passed l.self.slots l.i 0) l.best
-
-abbrev pub decreases-connections : goal.decreases-connections
-decreases-connections l = connections - l.i
+invariant-connections l = record {
+  coming : Coming l.self.clock l.self.slots (iter_rest l.slots);
+  first : Best (dues_of l.self.slots) (Passed (iter_rest l.slots)) l.best;
+}
