@@ -1,3 +1,3 @@
-pub mod Parts
-pub mod Digits
+pub mod Puts
+pub mod Decimals
 pub mod Tariffs

@@ -1,5 +1,6 @@
 -- One tariff more at the end. Assumes nothing.
-use Rattle.std.proofs.Common.{◌≡◌, ℕ, zero, suc, ◌+◌, List, ◌++◌, get_or, sym, ap, ◌∙◌, append_assoc, append-nil, add_comm, add-one, arith}
+use Rattle.std.proofs.Common.{◌≡◌, ℕ, zero, suc, ◌+◌, ◌<◌, List, ◌++◌, length, length-take, get_or, take, sym, ap, ◌∙◌, append_assoc, append-nil, add_comm, add-one, arith}
+use Rattle.std.proofs.lemmas.List.{get_or-take}
 use Rattle.account.specs.Records.{ticks_of}
 use Rattle.lines.specs.Line.{tariff_text, tariffs_text}
 
@@ -12,12 +13,10 @@ tariffs_push k (suc n) f =
     ap (λ l. tariff_text k (f k) ++ l) (tariffs_push (k + 1) n f ∙ ap (λ i. tariffs_text (k + 1) n f ++ tariff_text i (f i)) e)
     ∙ sym (append_assoc (tariff_text k (f k)) (tariffs_text (k + 1) n f) (tariff_text (k + suc n) (f (k + suc n))))
 
-ticks_at : (ts : List ℕ) (i : ℕ) → ticks_of ts (1 + i) ≡ get_or ts i 0
-ticks_at ts i = ap (λ n. ticks_of ts n) (add_comm 1 i ∙ add-one i)
-
 -- the ticks of tariff i + 1 are the i-th of the list
-pub tariffs_more : (ts : List ℕ) (i : ℕ) → tariffs_text 1 i (ticks_of ts) ++ tariff_text (i + 1) (get_or ts i 0) ≡ tariffs_text 1 (i + 1) (ticks_of ts)
-tariffs_more ts i =
+pub tariffs_more : (ts : List ℕ) (n i : ℕ) → i < length (take n ts) → tariffs_text 1 i (ticks_of ts) ++ tariff_text (i + 1) (get_or (take n ts) i 0) ≡ tariffs_text 1 (i + 1) (ticks_of ts)
+tariffs_more ts n i lt =
     let one : i + 1 ≡ 1 + i = omega arith in
-    (λ j. tariffs_text 1 i (ticks_of ts) ++ tariff_text (one j) (sym (ticks_at ts i) j))
-    ∙ (sym (tariffs_push 1 i (ticks_of ts)) ∙ ap (λ n. tariffs_text 1 n (ticks_of ts)) (sym (add-one i)))
+    let at : get_or (take n ts) i 0 ≡ ticks_of ts (1 + i) = get_or-take n ts i 0 (omega (arith, length-take n ts)) ∙ sym (ap (ticks_of ts) (add_comm 1 i ∙ add-one i)) in
+    (λ j. tariffs_text 1 i (ticks_of ts) ++ tariff_text (one j) (at j))
+    ∙ (sym (tariffs_push 1 i (ticks_of ts)) ∙ ap (λ m. tariffs_text 1 m (ticks_of ts)) (sym (add-one i)))

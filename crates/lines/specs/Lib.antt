@@ -1,2 +1,3 @@
-pub mod Put
+pub mod Page
+pub mod Digits
 pub mod Line

@@ -1,5 +1,5 @@
 -- The text of a line. Assumes nothing.
-use Rattle.std.specs.Prelude.{◌≡◌, ℕ, zero, suc, ◌+◌, ◌<◌, ◌≤◌, min, List, [], ◌∷◌, ◌++◌, length, Some, None, codes, decimal, Option}
+use Rattle.std.specs.Prelude.{◌≡◌, ℕ, zero, suc, ◌+◌, ◌<◌, ◌≤◌, min, List, [], ◌∷◌, ◌++◌, length, Ok, Err, Result, codes, decimal}
 use Rattle.report.specs.Limits.{tariffs}
 use Rattle.report.specs.Refusals.{returned}
 use Rattle.report.specs.declared.report.Address.{Address}
@@ -9,7 +9,9 @@ use Rattle.account.specs.declared.record.Status.{Status}
 use Rattle.account.specs.declared.record.Status.TheVariants.{Open, Closed, Repeat}
 use Rattle.lines.specs.declared.line.Layer.{Layer}
 use Rattle.lines.specs.declared.line.Layer.TheVariants.{Frame, Account as AccountLayer}
-use Rattle.lines.specs.Put.{Put}
+use Rattle.lines.specs.declared.page.Page.{Page}
+use Rattle.lines.specs.declared.page.NoRoom.{NoRoom}
+use Rattle.lines.specs.Page.{room, Adds}
 
 -- what a line calls each status
 abbrev pub status_text : Status → List ℕ
@@ -43,11 +45,18 @@ layer_text AccountLayer = codes "account"
 abbrev pub fault_text : Layer → Refusal → ℕ → List ℕ
 fault_text l e place = codes "fault " ++ (layer_text l ++ (codes " " ++ (decimal (returned e).number ++ (codes " " ++ (decimal place ++ (10 ∷ []))))))
 
+-- no head is longer, and no tariff
+abbrev pub head_size : ℕ
+head_size = 33
+
+abbrev pub tariff_size : ℕ
+tariff_size = 22
+
 -- no line is longer
 abbrev pub line_size : ℕ
 line_size = 800
 
--- A line is put at a place where a longest one fits, and the place after it is told; else nothing is altered.
-abbrev pub Placed : List ℕ → ℕ → List ℕ → Option ℕ → List ℕ → Type 0
-Placed old at bs None new = (length old < at + line_size) × (new ≡ old)
-Placed old at bs (Some end) new = (at + line_size ≤ length old) × (end ≤ at + line_size) × Put old at bs end new
+-- A line is put on a page where a longest one fits; else nothing is altered.
+abbrev pub Placed : Page → List ℕ → Result (Unit {0}) NoRoom → Page → Type 0
+Placed old bs (Ok _) new = (line_size ≤ room old) × (length bs ≤ line_size) × Adds old bs new
+Placed old bs (Err _) new = (room old < line_size) × (new ≡ old)

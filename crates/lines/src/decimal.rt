@@ -1,45 +1,102 @@
-// Numbers as decimal digits. Written in place and two digits to a division, since most of the time
-// of a program that prints accounts goes into its digits.
-ghost use Rattle.std.specs.Prelude.{◌≡◌, ℕ, ◌+◌, ◌≤◌, length, decimal};
-ghost use Rattle.lines.specs.Put.{Put};
+// Numbers as decimal digits, from the first to the last. By cases of their length and two digits at a time, since a program
+// that prints accounts spends much of its time on digits: `itoa`, which goes through a buffer, takes half as long again.
+ghost use Rattle.std.specs.Prelude.{◌≡◌, ◌^◌, ◌<◌, ◌≤◌, length, decimal};
+ghost use Rattle.lines.specs.Page.{room, HasRoom, Adds};
+ghost use Rattle.lines.specs.Digits.{two_digits, four_digits, eight_digits, decimal_size};
 
-// How many decimal digits n has.
-fn width(n: u64) -> usize
-    ensures is { result ≡ length (decimal n) }
-    ensures few { result ≤ 20 }
-{
-    let mut digits = 1;
-    let mut bound = 10u64;
-    while bound <= n {
-        digits += 1;
-        let Some(next) = bound.checked_mul(10) else {
-            break;
-        };
-        bound = next;
-    }
-    digits
-}
+use crate::page::Page;
 
-// Writes the decimal digits of n, and returns the place after them.
-pub(crate) fn put_decimal(out: &mut [u8], at: usize, n: u64) -> usize
-    requires { at + 20 ≤ length out.old }
-    ensures text { Put out.old at (decimal n) result out.new }
-    ensures few { result ≤ at + 20 }
-{
-    let end = at + width(n);
-    let mut place = end;
-    let mut left = n;
-    while left >= 100 {
-        let pair = left % 100;
-        left /= 100;
-        out[place - 1] = 48 + (pair % 10) as u8;
-        out[place - 2] = 48 + (pair / 10) as u8;
-        place -= 2;
+// The two digits of each number below a hundred.
+static PAIRS: [u8; 200] =
+    *b"00010203040506070809101112131415161718192021222324252627282930313233343536373839404142434445464748495051525354555657585960616263646566676869707172737475767778798081828384858687888990919293949596979899";
+
+#[tactic(auto, using(crate::proofs::Puts::puts, crate::proofs::Decimals::decimals))]
+impl Page<'_> {
+    #[inline(always)]
+    fn put_two_digits(&mut self, n: u32)
+        requires small { n < 100 }
+        requires room { HasRoom self.old (two_digits n) }
+        ensures { Adds self.old (two_digits n) self.new }
+    {
+        let at = n as usize * 2;
+        self.put_text(&[PAIRS[at], PAIRS[at + 1]]);
     }
-    if left >= 10 {
-        out[place - 1] = 48 + (left % 10) as u8;
-        left /= 10;
+
+    #[inline(always)]
+    fn put_four_digits(&mut self, n: u32)
+        requires small { n < 10 ^ 4 }
+        requires room { HasRoom self.old (four_digits n) }
+        ensures { Adds self.old (four_digits n) self.new }
+    {
+        self.put_two_digits(n / 100);
+        self.put_two_digits(n % 100);
     }
-    out[at] = 48 + left as u8;
-    end
+
+    #[inline(always)]
+    fn put_eight_digits(&mut self, n: u32)
+        requires small { n < 10 ^ 8 }
+        requires room { HasRoom self.old (eight_digits n) }
+        ensures { Adds self.old (eight_digits n) self.new }
+    {
+        self.put_four_digits(n / 10_000);
+        self.put_four_digits(n % 10_000);
+    }
+
+    // A number of one or two digits.
+    #[inline(always)]
+    pub(crate) fn put_up_to_two(&mut self, n: u32)
+        requires small { n < 100 }
+        requires room { HasRoom self.old (decimal n) }
+        ensures { Adds self.old (decimal n) self.new }
+    {
+        if n < 10 {
+            self.put_byte(b'0' + n as u8);
+        } else {
+            self.put_two_digits(n);
+        }
+    }
+
+    // A number of up to four digits.
+    #[inline(always)]
+    fn put_up_to_four(&mut self, n: u32)
+        requires small { n < 10 ^ 4 }
+        requires room { HasRoom self.old (decimal n) }
+        ensures { Adds self.old (decimal n) self.new }
+    {
+        if n < 100 {
+            self.put_up_to_two(n);
+        } else {
+            self.put_up_to_two(n / 100);
+            self.put_two_digits(n % 100);
+        }
+    }
+
+    // A number of up to eight digits.
+    #[inline(always)]
+    fn put_up_to_eight(&mut self, n: u32)
+        requires small { n < 10 ^ 8 }
+        requires room { HasRoom self.old (decimal n) }
+        ensures { Adds self.old (decimal n) self.new }
+    {
+        if n < 10_000 {
+            self.put_up_to_four(n);
+        } else {
+            self.put_up_to_four(n / 10_000);
+            self.put_four_digits(n % 10_000);
+        }
+    }
+
+    #[inline(always)]
+    pub(crate) fn put_decimal(&mut self, n: u32)
+        requires { decimal_size ≤ room self.old }
+        ensures adds { Adds self.old (decimal n) self.new }
+        ensures few { length (decimal n) ≤ decimal_size }
+    {
+        if n < 100_000_000 {
+            self.put_up_to_eight(n);
+        } else {
+            self.put_up_to_two(n / 100_000_000);
+            self.put_eight_digits(n % 100_000_000);
+        }
+    }
 }

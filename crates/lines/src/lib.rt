@@ -3,6 +3,8 @@
 
 mod decimal;
 mod line;
+mod page;
 mod put;
 
-pub use line::{LINE, Layer, put_fault, put_reading};
+pub use line::{LINE, Layer};
+pub use page::{NoRoom, Page};

@@ -1,24 +1,27 @@
-// Bytes put into lent bytes.
-ghost use Rattle.std.specs.Prelude.{◌≡◌, ℕ, ◌+◌, ◌≤◌, [], ◌∷◌, length};
-ghost use Rattle.lines.specs.Put.{Put};
+// Bytes put behind the text of a page.
+ghost use Rattle.std.specs.Prelude.{◌≡◌, ℕ, ◌≤◌, [], ◌∷◌, length};
+ghost use Rattle.lines.specs.Page.{HasRoom, Adds};
 
-// Writes one byte, and returns the place after it.
-pub(crate) fn put_byte(out: &mut [u8], at: usize, b: u8) -> usize
-    requires { at + 1 ≤ length out.old }
-    ensures text { Put out.old at (b ∷ []) result out.new }
-    ensures few { result ≡ at + 1 }
-{
-    out[at] = b;
-    at + 1
-}
+use crate::page::Page;
 
-// Writes some bytes.
-pub(crate) fn put_text(out: &mut [u8], at: usize, text: &[u8]) -> usize
-    requires { at + length text.now ≤ length out.old }
-    ensures text { Put out.old at text.now result out.new }
-    ensures few { result ≡ at + length text.now }
-{
-    let end = at + text.len();
-    out[at..end].copy_from_slice(text);
-    end
+impl Page<'_> {
+    #[inline(always)]
+    pub(crate) fn put_byte(&mut self, byte: u8)
+        requires { HasRoom self.old (byte ∷ []) }
+        ensures { Adds self.old (byte ∷ []) self.new }
+    {
+        self.bytes[self.end] = byte;
+        self.end += 1;
+    }
+
+    #[inline(always)]
+    pub(crate) fn put_text(&mut self, text: &[u8])
+        requires { HasRoom self.old text.now }
+        ensures { Adds self.old text.now self.new }
+    {
+        let end = self.end + text.len();
+        let bytes = &mut *self.bytes;
+        bytes[self.end..end].copy_from_slice(text);
+        self.end = end;
+    }
 }

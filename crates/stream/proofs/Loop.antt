@@ -1,33 +1,35 @@
 -- Frames told one after another. Assumes nothing.
-use Rattle.std.proofs.Common.{◌≡◌, ℕ, suc, ◌+◌, ◌<◌, ◌≤◌, Bool, true, false, cond, List, [], ◌∷◌, ◌++◌, length, take, drop, sym, refl, ap, ◌∙◌, subst, append_assoc, append-nil, arith, length-drop}
-use Rattle.lines.specs.Put.{Put}
-use Rattle.lines.proofs.Parts.{put_then, put_none}
+use Rattle.std.proofs.Common.{◌≡◌, ℕ, suc, ◌<◌, Bool, true, false, cond, List, [], ◌∷◌, ◌++◌, length, take, drop, sym, refl, ap, ◌∙◌, subst, append_assoc, append-nil, arith, length-append, length-take}
+use Rattle.std.proofs.lemmas.List.{take_at, drop_at}
+use Rattle.lines.specs.declared.page.Page.{Page}
+use Rattle.lines.specs.Page.{text, StartsIn, Adds}
+use Rattle.lines.proofs.Puts.{adds_then, adds_none}
 use Rattle.frame.specs.Frame.{frame_size}
 use Rattle.stream.specs.declared.tally.Tally.{Tally}
 use Rattle.stream.specs.Told.{Progress, Told, nothing, tell_one, then_tell, tell, frames_in, tell_frames, tell_end, unless_ended}
-use Rattle.stream.specs.Stands.{Stands, Puts}
+use Rattle.stream.specs.Stands.{Stands, PutsOn, Puts}
 
 -- a text before what is told
 abbrev pub joined_to : List ℕ → Told → Told
 joined_to t x = record { text = t ++ x.text; progress = x.progress }
 
 -- how far the frames of a block are told: the text so far is put, and the rest of the block is what is left to tell
-pub record SoFar (f : Progress → Told) (p : Progress) (old : List ℕ) (at : ℕ) (out : List ℕ) (t : Tally) (rest : List ℕ) : Type 0 where
+pub record SoFar (f : Progress → Told) (p : Progress) (old page : Page) (t : Tally) (rest : List ℕ) : Type 0 where
   pub text : List ℕ
   pub reached : Progress
-  pub put : Put old 0 text at out
+  pub adds : Adds old text page
   pub stands : Stands t reached
   pub left : f p ≡ joined_to text (unless_ended (tell_frames rest) reached)
 
-one_frame : (rest : List ℕ) → frame_size ≤ length rest → frames_in rest ≡ suc (frames_in (drop frame_size rest))
-one_frame rest lt = let l = length-drop frame_size rest in omega arith
+-- a frame and what comes after it
+module _ (rest frame after : List ℕ) (parts : rest ≡ frame ++ after) (one : length frame ≡ frame_size) where
+  pub fewer_frames : frames_in rest ≡ suc (frames_in after)
+  fewer_frames = omega (arith, ap length parts, length-append frame after)
 
-frames_then : (n : ℕ) (b : List ℕ) (q : Progress) → n ≡ suc (frames_in (drop frame_size b)) → tell n b q ≡ then_tell (tell_one (take frame_size b) q) (tell_frames (drop frame_size b))
-frames_then n b q e = ap (λ m. tell m b q) e
-
--- the lines of those after it still fit
-pub fewer_frames : (rest after : List ℕ) → frame_size ≤ length rest → length after + frame_size ≡ length rest → frames_in rest ≡ suc (frames_in after)
-fewer_frames rest after lt e = omega arith
+  frames_then : (q : Progress) → tell_frames rest q ≡ then_tell (tell_one frame q) (tell_frames after)
+  frames_then q =
+      ap (λ n. tell n rest q) fewer_frames ∙ ap (λ b. tell (suc (frames_in after)) b q) parts
+      ∙ (λ i. then_tell (tell_one (take_at frame after frame_size one i) q) (tell (frames_in after) (drop_at frame after frame_size one i)))
 
 -- a frame, and those after it
 then_more : (t : List ℕ) (x : Told) (f : Progress → Told) → joined_to t (then_tell x f) ≡ joined_to (t ++ x.text) (unless_ended f x.progress)
@@ -40,50 +42,61 @@ then_more t x f = go x.progress.ended refl
 unless_not : (f : Progress → Told) (q : Progress) → q.ended ≡ false → unless_ended f q ≡ f q
 unless_not f q e = ap (λ v. cond v (nothing q) (f q)) e
 
-module _ (f : Progress → Told) (p : Progress) (old : List ℕ) where
-  so_far_next : (at end : ℕ) (out new : List ℕ) (t t' : Tally) (rest : List ℕ) → t.ended ≡ false → frame_size ≤ length rest → ((q : Progress) → Stands t q → Puts (tell_one (take frame_size rest) q) out at end new t') → SoFar f p old at out t rest → SoFar f p old end new t' (drop frame_size rest)
-  so_far_next at end out new t t' rest on lt told s =
+module _ (f : Progress → Told) (p : Progress) (old : Page) where
+  pub so_far_more : (page new : Page) (t t' : Tally) (rest frame after : List ℕ) → t.ended ≡ false → rest ≡ frame ++ after → length frame ≡ frame_size → ((q : Progress) → Stands t q → PutsOn (tell_one frame q) page new t') → SoFar f p old page t rest → SoFar f p old new t' after
+  so_far_more page new t t' rest frame after on parts one told s =
       let q : Progress = s.reached in
-      let x : Told = tell_one (take frame_size rest) q in
+      let x : Told = tell_one frame q in
       let puts = told q s.stands in
       record {
         text = s.text ++ x.text;
         reached = x.progress;
-        put = put_then _ _ _ _ _ _ _ _ s.put puts.text;
+        adds = adds_then s.adds puts.text;
         stands = puts.stands;
         left =
             s.left
-            ∙ (ap (joined_to s.text) (unless_not (tell_frames rest) q (sym s.stands.ended ∙ on) ∙ frames_then (frames_in rest) rest q (one_frame rest lt))
-            ∙ then_more s.text x (tell_frames (drop frame_size rest)));
+            ∙ (ap (joined_to s.text) (unless_not (tell_frames rest) q (sym s.stands.ended ∙ on) ∙ frames_then rest frame after parts one q)
+            ∙ then_more s.text x (tell_frames after));
       }
-
-  pub so_far_more : (at end : ℕ) (out new : List ℕ) (t t' : Tally) (rest frame after : List ℕ) → t.ended ≡ false → frame_size ≤ length rest → frame ≡ take frame_size rest → after ≡ drop frame_size rest → ((q : Progress) → Stands t q → Puts (tell_one frame q) out at end new t') → SoFar f p old at out t rest → SoFar f p old end new t' after
-  so_far_more at end out new t t' rest frame after on lt is is-after told s = subst (SoFar f p old end new t') (sym is-after) (so_far_next at end out new t t' rest on lt (λ q h. subst (λ b. Puts (tell_one b q) out at end new t') is (told q h)) s)
 
   all_told : (s : Told) (text : List ℕ) (q : Progress) → s ≡ joined_to text (nothing q) → s ≡ record { text = text; progress = q }
   all_told s text q e = e ∙ ap (λ l. record { text = l; progress = q }) (append-nil text)
 
-  ended_puts : (at : ℕ) (out : List ℕ) (t : Tally) (rest : List ℕ) (s : SoFar f p old at out t rest) → unless_ended (tell_frames rest) s.reached ≡ nothing s.reached → Puts (f p) old 0 at out t
-  ended_puts at out t rest s e =
+  ended_puts : (page : Page) (t : Tally) (rest : List ℕ) (s : SoFar f p old page t rest) → unless_ended (tell_frames rest) s.reached ≡ nothing s.reached → PutsOn (f p) old page t
+  ended_puts page t rest s e =
       let whole = all_told (f p) s.text s.reached (s.left ∙ ap (joined_to s.text) e) in
-      subst (λ x. Puts x old 0 at out t) (sym whole) (record { text = s.put; stands = s.stands })
+      subst (λ x. PutsOn x old page t) (sym whole) (record { text = s.adds; stands = s.stands })
 
   -- a fault ended it, or no whole frame is left
-  pub so_far_ended : (at : ℕ) (out : List ℕ) (t : Tally) (rest : List ℕ) → t.ended ≡ true → SoFar f p old at out t rest → Puts (f p) old 0 at out t
-  so_far_ended at out t rest over s = ended_puts at out t rest s (ap (λ v. cond v (nothing s.reached) (tell_frames rest s.reached)) (sym s.stands.ended ∙ over))
+  pub so_far_ended : (page : Page) (t : Tally) (rest : List ℕ) → t.ended ≡ true → SoFar f p old page t rest → PutsOn (f p) old page t
+  so_far_ended page t rest over s = ended_puts page t rest s (ap (λ v. cond v (nothing s.reached) (tell_frames rest s.reached)) (sym s.stands.ended ∙ over))
 
-  pub so_far_all : (at : ℕ) (out : List ℕ) (t : Tally) (rest : List ℕ) → length rest < frame_size → SoFar f p old at out t rest → Puts (f p) old 0 at out t
-  so_far_all at out t rest short s =
+  pub so_far_all : (page : Page) (t : Tally) (rest : List ℕ) → length rest < frame_size → SoFar f p old page t rest → PutsOn (f p) old page t
+  so_far_all page t rest short s =
       let none : frames_in rest ≡ 0 = omega arith in
-      ended_puts at out t rest s (go s.reached.ended (ap (λ n. tell n rest s.reached) none))
+      ended_puts page t rest s (go s.reached.ended (ap (λ n. tell n rest s.reached) none))
     where
       go : (v : Bool) → tell_frames rest s.reached ≡ nothing s.reached → cond v (nothing s.reached) (tell_frames rest s.reached) ≡ nothing s.reached
       go true e = refl
       go false e = e
 
 -- nothing is told, and nothing put
-pub nothing_puts : (f : Progress → Told) (p : Progress) (out : List ℕ) (t : Tally) → f p ≡ nothing p → Stands t p → Puts (f p) out 0 0 out t
-nothing_puts f p out t e s = subst (λ x. Puts x out 0 0 out t) (sym e) (record { text = put_none out 0; stands = s })
+pub nothing_puts : (f : Progress → Told) (p : Progress) (out : List ℕ) (t : Tally) → f p ≡ nothing p → Stands t p → Puts (f p) out 0 out t
+nothing_puts f p out t e s = subst (λ x. Puts x out 0 out t) (sym e) (record { ends = refl; front = refl; rest = refl; same = refl; stands = s })
+
+-- what was put on a page from its start stands at the front of the lent bytes
+pub page_puts : {told : Told} {lent now : List ℕ} {old new : Page} {t : Tally} {end : ℕ} → StartsIn lent old → PutsOn told old new t → end ≡ length (text new) → length now ≡ length lent → now ≡ new.bytes.now → Puts told lent end now t
+page_puts {told} {lent} {now} {old} {new} {t} {end} starts puts ends same is =
+    let said : text new ≡ told.text = puts.text.text ∙ ap (λ l. l ++ told.text) starts.text in
+    let at : new.end ≡ end = omega (arith, ends, new.inside, length-take new.end new.bytes.now) in
+    let long : end ≡ length told.text = ends ∙ ap length said in
+    record {
+      ends = long;
+      front = (λ i. take (sym at i) (is i)) ∙ said;
+      rest = (λ i. drop (sym at i) (is i)) ∙ puts.text.behind ∙ (λ i. drop (sym long i) (starts.behind i));
+      same = same;
+      stands = puts.stands;
+    }
 
 pub unless_true : (f : Progress → Told) (p : Progress) → p.ended ≡ true → unless_ended f p ≡ nothing p
 unless_true f p e = ap (λ v. cond v (nothing p) (f p)) e
@@ -101,8 +114,8 @@ end_some : (b : List ℕ) (p : Progress) → 0 < length b → tell_end b p ≡ t
 end_some [] p lt = absurd (omega arith)
 end_some (x ∷ b) p lt = refl
 
-pub end_puts : (b : List ℕ) (p : Progress) (old : List ℕ) (end : ℕ) (new : List ℕ) (t t' : Tally) → 0 < length b → t.ended ≡ false → Stands t p → Puts (tell_one b p) old 0 end new t' → Puts (unless_ended (tell_end b) p) old 0 end new t'
-end_puts b p old end new t t' lt on s puts = subst (λ x. Puts x old 0 end new t') (sym (unless_not (tell_end b) p (sym s.ended ∙ on) ∙ end_some b p lt)) puts
+pub end_puts : (b : List ℕ) (p : Progress) (old new : Page) (t t' : Tally) → 0 < length b → t.ended ≡ false → Stands t p → PutsOn (tell_one b p) old new t' → PutsOn (unless_ended (tell_end b) p) old new t'
+end_puts b p old new t t' lt on s puts = subst (λ x. PutsOn x old new t') (sym (unless_not (tell_end b) p (sym s.ended ∙ on) ∙ end_some b p lt)) puts
 
-pub so_far_first : (f : Progress → Told) (p : Progress) (old : List ℕ) (t : Tally) (rest : List ℕ) → f p ≡ unless_ended (tell_frames rest) p → Stands t p → SoFar f p old 0 old t rest
-so_far_first f p old t rest e s = record { text = []; reached = p; put = put_none old 0; stands = s; left = e }
+pub so_far_first : (f : Progress → Told) (p : Progress) (page : Page) (t : Tally) (rest : List ℕ) → f p ≡ unless_ended (tell_frames rest) p → Stands t p → SoFar f p page page t rest
+so_far_first f p page t rest e s = record { text = []; reached = p; adds = adds_none page; stands = s; left = e }

@@ -4,7 +4,8 @@ use Rattle.report.specs.Limits.{open_accounts}
 use Rattle.account.specs.Records.{closed_record}
 use Rattle.account.specs.Follow.{Holds}
 use Rattle.lines.specs.Line.{line_size}
-use Rattle.lines.specs.Put.{Put}
+use Rattle.lines.specs.Page.{Adds}
+use Rattle.lines.specs.declared.page.Page.{Page}
 use Rattle.stream.specs.declared.tally.Tally.{Tally}
 use Rattle.stream.specs.Told.{Progress, Told, after_frames}
 
@@ -20,15 +21,23 @@ pub record Stands (t : Tally) (p : Progress) : Type 0 where
   pub place : t.place ≡ p.place
   pub ended : t.ended ≡ p.ended
 
--- what is told was put, and the tally is so far
-pub record Puts (told : Told) (old : List ℕ) (at end : ℕ) (new : List ℕ) (after : Tally) : Type 0 where
-  pub text : Put old at told.text end new
+-- what is told was put on the page, and the tally is so far
+pub record PutsOn (told : Told) (old new : Page) (after : Tally) : Type 0 where
+  pub text : Adds old told.text new
+  pub stands : Stands after told.progress
+
+-- what is told was put at the front of a place, up to `end`; what stands further on is as it was; and the tally is so far
+pub record Puts (told : Told) (old : List ℕ) (end : ℕ) (new : List ℕ) (after : Tally) : Type 0 where
+  pub ends : end ≡ length told.text
+  pub front : take end new ≡ told.text
+  pub rest : drop end new ≡ drop end old
+  pub same : length new ≡ length old
   pub stands : Stands after told.progress
 
 -- A text is put at the front of a place where n lines fit, whatever they are; else nothing is altered.
 abbrev pub Tells : ℕ → (Progress → Told) → Tally → List ℕ → Option ℕ → List ℕ → Tally → Type 0
 Tells n tell before old None new after = (length old < n * line_size) × (new ≡ old) × (after ≡ before)
-Tells n tell before old (Some end) new after = (n * line_size ≤ length old) × (end ≤ length old) × ((p : Progress) → Stands before p → Puts (tell p) old 0 end new after)
+Tells n tell before old (Some end) new after = (n * line_size ≤ length old) × (end ≤ length old) × ((p : Progress) → Stands before p → Puts (tell p) old end new after)
 
 -- the bytes that stand after the whole frames among the first ones of a buffer lie at its front, as many as told, and what stands further on is as it was
 pub record Keeps (old : List ℕ) (filled r : ℕ) (new : List ℕ) : Type 0 where

@@ -1,19 +1,18 @@
 // A line for each frame, up to the first fault.
 ghost use Rattle.std.specs.Prelude.{◌≡◌, ℕ, ◌+◌, ◌*◌, ◌/◌, ◌≤◌, false, length};
 ghost use Rattle.frame.specs.Frame.{frame_size};
-ghost use Rattle.account.specs.Records.{account_of};
 ghost use Rattle.account.specs.Rule.{read_one};
-ghost use Rattle.lines.specs.Line.{line_size, line_text, fault_text};
-ghost use Rattle.lines.specs.Put.{Put};
+ghost use Rattle.lines.specs.Line.{line_size};
+ghost use Rattle.lines.specs.Page.{room, SameLender};
 ghost use Rattle.stream.specs.Told.{Progress, Told, after_rule, tell_one, tell_frames, tell_end, frames_in, after_frames, unless_ended, at_start};
 ghost use Rattle.stream.specs.Cuts.{CutAnyhow};
-ghost use Rattle.stream.specs.Stands.{Blank, Stands, Puts, Tells, Keeps};
+ghost use Rattle.stream.specs.Stands.{Blank, Stands, PutsOn, Tells, Keeps};
 
 use crate::tally::Tally;
-use account::{Reading, closed_records, read_one};
+use account::{closed_records, read_one};
 use frame::{FRAME, read};
-use lines::{LINE, Layer, put_fault, put_reading};
-use report::{Refusal, Report};
+use lines::{LINE, Layer, Page};
+use report::Report;
 
 impl Tally {
     fn blank() -> Tally
@@ -36,60 +35,55 @@ impl Tally {
         Tally::blank()
     }
 
-    // What is told of a report, and where the text ends.
-    fn tell_report(&mut self, report: &Report, out: &mut [u8], at: usize) -> usize
-        requires { at + line_size ≤ length out.old }
-        ensures few { result ≤ at + line_size }
-        ensures told { (p : Progress) → Stands self.old p → Puts (after_rule report.now p (read_one report.now p.book)) out.old at result out.new self.new }
+    // Tells of a report, on a page where a longest line fits.
+    fn tell_report(&mut self, report: &Report, page: &mut Page)
+        requires { line_size ≤ room page.old }
+        ensures lender { SameLender page.old page.new }
+        ensures few { room page.old ≤ room page.new + line_size }
+        ensures told { (p : Progress) → Stands self.old p → PutsOn (after_rule report.now p (read_one report.now p.book)) page.old page.new self.new }
     {
         match read_one(&mut self.records, report) {
             Ok(reading) => {
                 self.place = self.place.saturating_add(FRAME as u64);
-                line_of_reading(out, at, report.number, &reading)
+                page.put_reading(report.number, &reading).unwrap();
             }
             Err(refusal) => {
                 self.ended = true;
-                line_of_fault(out, at, Layer::Account, refusal, self.place)
+                page.put_fault(Layer::Account, refusal, self.place).unwrap();
             }
         }
     }
 
-    // What is told of a frame, and where the text ends.
-    fn tell_frame(&mut self, frame: &[u8], out: &mut [u8], at: usize) -> usize
-        requires { at + line_size ≤ length out.old }
-        ensures few { result ≤ at + line_size }
-        ensures told { (p : Progress) → Stands self.old p → Puts (tell_one frame.now p) out.old at result out.new self.new }
+    // Tells of a frame, on a page where a longest line fits.
+    fn tell_frame(&mut self, frame: &[u8], page: &mut Page)
+        requires { line_size ≤ room page.old }
+        ensures lender { SameLender page.old page.new }
+        ensures few { room page.old ≤ room page.new + line_size }
+        ensures told { (p : Progress) → Stands self.old p → PutsOn (tell_one frame.now p) page.old page.new self.new }
     {
         match read(frame) {
-            Ok((report, _)) => self.tell_report(&report, out, at),
+            Ok((report, _)) => self.tell_report(&report, page),
             Err(refusal) => {
                 self.ended = true;
                 let wrong = refusal.place().unwrap_or(0) as u64;
-                line_of_fault(
-                    out,
-                    at,
-                    Layer::Frame,
-                    refusal,
-                    self.place.saturating_add(wrong),
-                )
+                let place = self.place.saturating_add(wrong);
+                page.put_fault(Layer::Frame, refusal, place).unwrap();
             }
         }
     }
 
-    // Tells the whole frames one after another, up to a fault, and where the text ends.
-    fn tell_frames(&mut self, block: &[u8], out: &mut [u8]) -> usize
-        requires { frames_in block.now * line_size ≤ length out.old }
-        ensures few { result ≤ length out.old }
-        ensures told { (p : Progress) → Stands self.old p → Puts (unless_ended (tell_frames block.now) p) out.old 0 result out.new self.new }
+    // Tells of the whole frames of a block one after another, up to a fault.
+    fn tell_frames(&mut self, block: &[u8], page: &mut Page)
+        requires { frames_in block.now * line_size ≤ room page.old }
+        ensures lender { SameLender page.old page.new }
+        ensures told { (p : Progress) → Stands self.old p → PutsOn (unless_ended (tell_frames block.now) p) page.old page.new self.new }
     {
-        let mut rest = block;
-        let mut at = 0;
-        while rest.len() >= FRAME && !self.ended {
-            let (frame, after) = rest.split_at(FRAME);
-            at = self.tell_frame(frame, out, at);
-            rest = after;
+        for frame in block.chunks_exact(FRAME) {
+            if self.ended {
+                break;
+            }
+            self.tell_frame(frame, page);
         }
-        at
     }
 
     // Writes what is told of the whole frames that a block begins with into the front of a place,
@@ -100,7 +94,9 @@ impl Tally {
         if out.len() / LINE < block.len() / FRAME {
             return None;
         }
-        Some(self.tell_frames(block, out))
+        let mut page = Page::new(out);
+        self.tell_frames(block, &mut page);
+        Some(page.len())
     }
 
     // Writes what is told of the bytes that the input ends with, after its whole frames.
@@ -110,37 +106,12 @@ impl Tally {
         if out.len() < LINE {
             return None;
         }
-        if rest.is_empty() {
+        if rest.is_empty() || self.ended {
             return Some(0);
         }
-        if self.ended {
-            return Some(0);
-        }
-        Some(self.tell_frame(rest, out, 0))
-    }
-}
-
-// The line about a report that was read, where a longest line fits.
-fn line_of_reading(out: &mut [u8], at: usize, number: u16, reading: &Reading) -> usize
-    requires { at + line_size ≤ length out.old }
-    ensures few { result ≤ at + line_size }
-    ensures text { Put out.old at (line_text reading.now.account.address number reading.now.status (account_of reading.now.account)) result out.new }
-{
-    match put_reading(out, at, number, reading) {
-        Some(end) => end,
-        None => at,
-    }
-}
-
-// The line about a fault, where a longest line fits.
-fn line_of_fault(out: &mut [u8], at: usize, layer: Layer, refusal: Refusal, place: u64) -> usize
-    requires { at + line_size ≤ length out.old }
-    ensures few { result ≤ at + line_size }
-    ensures text { Put out.old at (fault_text layer refusal place) result out.new }
-{
-    match put_fault(out, at, layer, refusal, place) {
-        Some(end) => end,
-        None => at,
+        let mut page = Page::new(out);
+        self.tell_frame(rest, &mut page);
+        Some(page.len())
     }
 }
 

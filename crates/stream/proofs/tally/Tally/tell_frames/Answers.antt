@@ -1,31 +1,36 @@
-use Rattle.std.proofs.Common.{refl, arith}
-use Rattle.stream.specs.Told.{tell_frames, unless_ended}
+use Rattle.std.proofs.Common.{refl, arith, sym, ap, ◌∙◌}
+use Rattle.std.specs.Slice.Iter.{chunks_exact_rest, chunks_exact_size}
+use Rattle.stream.specs.Told.{frames_in, tell_frames, unless_ended}
 use Rattle.stream.proofs.Loop.{so_far_first, fewer_frames, so_far_more, so_far_ended, so_far_all}
 use Rattle.stream.proofs.tally.Tally.tell_frames.Goals as goal
 
-pub loop-rest-init : goal.loop-rest-init
-loop-rest-init c = (omega arith, λ p s. so_far_first (unless_ended (tell_frames c.args.block.now)) p c.args.out.now c.args.self.now c.args.block.now refl s)
-
-pub loop-rest-preserved : goal.loop-rest-preserved
-loop-rest-preserved c =
-    let l = c.loop-rest in
-    let parts = c.split_at.ensures in
-    let told = c.tell_frame-at.ensures in
-    let fewer = fewer_frames l.rest.now c.split_at.result.1.now c.loop-rest-test.true parts.back_len in
-    (omega arith, λ p s. so_far_more (unless_ended (tell_frames c.args.block.now)) p c.args.out.now l.at c.tell_frame-at.result l.out c.tell_frame-at.new.out l.self c.tell_frame-at.new.self l.rest.now c.split_at.result.0.now c.split_at.result.1.now c.if-not-self.true c.loop-rest-test.true parts.front parts.back told.told (l.invariant.1 p s))
-
-pub returns-after-loop-rest : goal.returns-after-loop-rest
-returns-after-loop-rest c =
-    let l = c.loop-rest in
+pub loop-frame-init : goal.loop-frame-init
+loop-frame-init c =
+    let same = c.into_iter-frame-iterator.ensures.into_iter_gives in
+    let rest = ap chunks_exact_rest same ∙ c.chunks_exact-frame-items.ensures.rest in
     record {
-      few = omega arith;
-      told = λ p s. so_far_all (unless_ended (tell_frames c.args.block.now)) p c.args.out.now l.at l.out l.self l.rest.now c.loop-rest-test.false (l.invariant.1 p s);
+      lender = refl;
+      size = ap chunks_exact_size same ∙ c.chunks_exact-frame-items.ensures.size;
+      fits = omega (arith, ap frames_in rest);
+      told = λ p s. so_far_first _ p _ _ _ (ap (λ b. unless_ended (tell_frames b) p) (sym rest)) s;
     }
 
-pub returns-else-not-self : goal.returns-else-not-self
-returns-else-not-self c =
-    let l = c.loop-rest in
+pub loop-frame-preserved : goal.loop-frame-preserved
+loop-frame-preserved c =
+    let l = c.loop-frame.invariant in
+    let step = c.in-Some.ensures.steps in
+    let one = step.1.1 ∙ l.size in
     record {
-      few = omega arith;
-      told = λ p s. so_far_ended (unless_ended (tell_frames c.args.block.now)) p c.args.out.now l.at l.out l.self l.rest.now c.if-not-self.false (l.invariant.1 p s);
+      lender = c.tell_frame.ensures.lender ∙ l.lender;
+      size = step.0 ∙ l.size;
+      fits = omega (arith, fewer_frames _ _ _ step.1.0 one);
+      told = λ p s. so_far_more _ p _ _ _ _ _ _ _ _ c.if-self.false step.1.0 one c.tell_frame.ensures.told (l.told p s);
     }
+
+pub returns-in-None-clause-told : goal.returns-in-None-clause-told
+returns-in-None-clause-told c p s =
+    let l = c.loop-frame.invariant in
+    so_far_all _ p _ _ _ _ (omega (arith, l.size, c.in-None.ensures.steps.1.0)) (l.told p s)
+
+pub returns-then-self-clause-told : goal.returns-then-self-clause-told
+returns-then-self-clause-told c p s = so_far_ended _ p _ _ _ _ c.if-self.true (c.loop-frame.invariant.told p s)

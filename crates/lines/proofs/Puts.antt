@@ -1,0 +1,44 @@
+-- Texts that are put one after another. Assumes nothing.
+use Rattle.std.proofs.Common.{◌≡◌, ℕ, ◌+◌, ◌<◌, ◌≤◌, List, [], ◌++◌, length, take, drop, sym, ap, ◌∙◌, subst, append_assoc, append-nil, refl, arith, length-append, length-drop}
+use Rattle.std.proofs.lemmas.List.{drop-drop}
+use Rattle.std.proofs.lemmas.Slice.{take-put_mid, drop-put_mid}
+use borrow.Rule.Slice.PartMut.{put_mid}
+use Rattle.lines.specs.declared.page.Page.{Page}
+use Rattle.lines.specs.Page.{text, behind, SameLender, Adds}
+
+-- one text, and the next behind it
+pub adds_then : {p q r : Page} {a b : List ℕ} → Adds p a q → Adds q b r → Adds p (a ++ b) r
+adds_then {p} {q} {r} {a} {b} one two = record {
+  text = two.text ∙ ap (λ l. l ++ b) one.text ∙ append_assoc _ a b;
+  behind = two.behind ∙ ap (drop (length b)) one.behind ∙ drop-drop (length b) (length a) _ ∙ ap (λ n. drop n (behind p)) (sym (length-append a b));
+  room = omega (arith, one.room, two.room, length-append a b);
+  lender = two.lender ∙ one.lender;
+}
+
+pub adds_none : (p : Page) → Adds p [] p
+adds_none p = record { text = sym (append-nil (text p)); behind = refl; room = omega arith; lender = refl }
+
+pub adds_is : {p q : Page} {a b : List ℕ} → a ≡ b → Adds p a q → Adds p b q
+adds_is {p} {q} e = subst (λ l. Adds p l q) e
+
+-- a page lent for a while, and given back
+pub adds_as : {p line new q : Page} {bs : List ℕ} → Adds line bs new → text line ≡ text p → behind line ≡ behind p → text q ≡ text new → behind q ≡ behind new → SameLender p q → Adds p bs q
+adds_as {bs} adds text_was behind_was text_is behind_is lender = record {
+  text = text_is ∙ adds.text ∙ ap (λ l. l ++ bs) text_was;
+  behind = behind_is ∙ adds.behind ∙ ap (drop (length bs)) behind_was;
+  room = ap (λ l. length bs + length l) behind_is ∙ adds.room ∙ ap length behind_was;
+  lender = lender;
+}
+
+-- bs is written over the k bytes from a place on
+module _ (xs bs ys : List ℕ) (at k : ℕ) (is : ys ≡ bs) (fits : at + length bs ≤ length xs) where
+  pub written : take (at + length bs) (put_mid at k xs ys) ≡ take at xs ++ bs
+  written = take-put_mid at k xs ys (at + length bs) (omega (arith, ap length is)) (omega arith) ∙ ap (λ l. take at xs ++ l) is
+
+  pub written_behind : k ≡ length bs → drop (at + length bs) (put_mid at k xs ys) ≡ drop (length bs) (drop at xs)
+  written_behind e = drop-put_mid at k xs ys (at + length bs) (omega arith) (omega arith) (omega (arith, ap length is)) ∙ sym (drop-drop (length bs) at xs)
+
+  pub written_room : k ≡ length bs → length bs + length (drop (at + length bs) (put_mid at k xs ys)) ≡ length (drop at xs)
+  written_room e = omega (arith, ap length (written_behind e), length-drop (length bs) (drop at xs), length-drop at xs)
+
+pub ruleset puts = (adds_then, length-append)
