@@ -12,7 +12,7 @@ use report::{Address, Refusal};
 use rules::{Call, Order, OrderKind, Reply};
 
 // A call, and what it was answered.
-#[derive(Clone, Copy)]
+#[derive(Clone, Copy, PartialEq, Eq, Debug)]
 pub struct CallRecord {
     pub call: Call,
     pub reply: Reply,

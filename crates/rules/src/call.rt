@@ -5,7 +5,7 @@ use report::{Address, Refusal, Report};
 
 // What the controller grants: the period's longest time in ticks, whether the connection is released at its end, the party
 // that the reports speak of, the seconds to a tariff switch, and the tones that warn of the period's end.
-#[derive(Clone, Copy)]
+#[derive(Clone, Copy, PartialEq, Eq, Debug)]
 pub struct Instruction {
     pub maximum: u32,
     pub release: bool,
@@ -15,27 +15,27 @@ pub struct Instruction {
 }
 
 // A set of seven e-values, each absent or 0 to 8,191.
-#[derive(Clone, Copy)]
+#[derive(Clone, Copy, PartialEq, Eq, Debug)]
 pub struct EValues {
     pub values: [Option<u16>; E_VALUES],
 }
 
 // The set that an advice switch brings, and the seconds until then.
-#[derive(Clone, Copy)]
+#[derive(Clone, Copy, PartialEq, Eq, Debug)]
 pub struct SecondSet {
     pub set: EValues,
     pub seconds: u32,
 }
 
 // One e-value set, or two with a switch between them.
-#[derive(Clone, Copy)]
+#[derive(Clone, Copy, PartialEq, Eq, Debug)]
 pub struct Advice {
     pub first: EValues,
     pub second: Option<SecondSet>,
 }
 
 // What a call does at an address. A confirmation names a report by its number.
-#[derive(Clone, Copy)]
+#[derive(Clone, Copy, PartialEq, Eq, Debug)]
 pub enum Operation {
     SetUp,
     Continue,
@@ -49,7 +49,7 @@ pub enum Operation {
 }
 
 // A call with its values: every call but take carries a tick.
-#[derive(Clone, Copy)]
+#[derive(Clone, Copy, PartialEq, Eq, Debug)]
 pub enum Call {
     On {
         tick: u32,
@@ -61,7 +61,7 @@ pub enum Call {
 }
 
 // What the host is to do: note that the connection ended, send an e-value set, sound a burst list, or nothing.
-#[derive(Clone, Copy)]
+#[derive(Clone, Copy, PartialEq, Eq, Debug)]
 pub enum OrderKind {
     Ended,
     Advise(EValues),
@@ -70,14 +70,14 @@ pub enum OrderKind {
 }
 
 // What an admitted timed call asks of the host, and for which address.
-#[derive(Clone, Copy)]
+#[derive(Clone, Copy, PartialEq, Eq, Debug)]
 pub struct Order {
     pub address: Address,
     pub kind: OrderKind,
 }
 
 // The answer to a call: a refusal, an order, or a report that was taken.
-#[derive(Clone, Copy)]
+#[derive(Clone, Copy, PartialEq, Eq, Debug)]
 pub enum Reply {
     Refused(Refusal),
     Done(Order),

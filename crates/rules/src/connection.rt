@@ -13,7 +13,7 @@ pub enum Stage {
 }
 
 // An open period: what its instruction said, and the tick at which that was given.
-#[derive(Clone, Copy)]
+#[derive(Clone, Copy, PartialEq, Eq, Debug)]
 pub struct Period {
     pub maximum: u32,
     pub release: bool,
@@ -22,7 +22,7 @@ pub struct Period {
 }
 
 // How many instructions came, the party of the newest, the open period, and the previous period's end.
-#[derive(Clone, Copy)]
+#[derive(Clone, Copy, PartialEq, Eq, Debug)]
 pub struct Grant {
     pub had: u16,
     pub party: u8,
@@ -31,7 +31,7 @@ pub struct Grant {
 }
 
 // How many tariff switches counted, the tick of the last one, and the interval that the next report holds.
-#[derive(Clone, Copy)]
+#[derive(Clone, Copy, PartialEq, Eq, Debug)]
 pub struct Meter {
     pub switches: u8,
     pub last: Option<u32>,
@@ -39,7 +39,7 @@ pub struct Meter {
 }
 
 // The e-value sets that are still to be ordered.
-#[derive(Clone, Copy)]
+#[derive(Clone, Copy, PartialEq, Eq, Debug)]
 pub struct StoredSets {
     pub first: Option<EValues>,
     pub second: Option<EValues>,
@@ -47,7 +47,7 @@ pub struct StoredSets {
 
 // A connection: its stage, what it was granted and metered, its e-value sets and timers, how many reports it made, and
 // the one that awaits confirmation.
-#[derive(Clone, Copy)]
+#[derive(Clone, Copy, PartialEq, Eq, Debug)]
 pub struct Connection {
     pub stage: Stage,
     pub grant: Grant,

@@ -6,7 +6,7 @@ use report::{Address, Report};
 use rules::{Connection, Order};
 
 // A connection at its address. Its numbers are within their types.
-#[derive(Clone, Copy)]
+#[derive(Clone, Copy, PartialEq, Eq, Debug)]
 pub struct Place {
     pub address: Address,
     pub connection: Connection,
@@ -14,7 +14,7 @@ pub struct Place {
 }
 
 // What an admitted call asks of the host, and the report that goes, if one does.
-#[derive(Clone, Copy)]
+#[derive(Clone, Copy, PartialEq, Eq, Debug)]
 pub struct Outcome {
     pub order: Order,
     pub report: Option<Report>,
