@@ -61,6 +61,7 @@ pub enum Call {
 }
 
 // What the host is to do: note that the connection ended, send an e-value set, sound a burst list, or nothing.
+// `Nothing` is a case, since with an `Option` each match on an order would have two levels.
 #[derive(Clone, Copy, PartialEq, Eq, Debug)]
 pub enum OrderKind {
     Ended,
@@ -77,6 +78,7 @@ pub struct Order {
 }
 
 // The answer to a call: a refusal, an order, or a report that was taken.
+// `Refused` is a case, since with a `Result` each match on a reply would have two levels.
 #[derive(Clone, Copy, PartialEq, Eq, Debug)]
 pub enum Reply {
     Refused(Refusal),

@@ -2,7 +2,7 @@
 ghost use Rattle.std.specs.Prelude.{◌≡◌};
 ghost use Rattle.std.specs.Option.{option_map};
 ghost use Rattle.rules.specs.Core.{dues_at};
-ghost use Rattle.rules.specs.Dues.{due_of, item, sooner, soonest, earliest};
+ghost use Rattle.rules.specs.Dues.{due_of, item, sooner, soonest, if_due, earliest};
 ghost use Rattle.rules.specs.Earliest.{Earliest};
 ghost use Rattle.table.specs.State.{core_of};
 
@@ -44,6 +44,13 @@ fn sooner_of(best: Option<Item>, next: Option<Item>) -> Option<Item>
     }
 }
 
+// An item, if it is due at or before the tick.
+fn if_due(tick: u32, item: Option<Item>) -> Option<Item>
+    ensures { result ≡ if_due tick item }
+{
+    item.filter(|i| i.tick <= tick)
+}
+
 impl Table {
     // The first item of all connections, due or not.
     fn soonest(&self) -> Option<Item>
@@ -69,7 +76,7 @@ impl Table {
         ensures value { result ≡ earliest (dues_at (core_of self.now)) tick }
         ensures least { Earliest (dues_at (core_of self.now)) tick result }
     {
-        self.soonest().filter(|item| item.tick <= tick)
+        if_due(tick, self.soonest())
     }
 
     // The tick of the first item, whatever the clock: when the host has to fire next.
