@@ -30,15 +30,17 @@ adds_as {bs} adds text_was behind_was text_is behind_is lender = record {
   lender = lender;
 }
 
--- bs is written over the k bytes from a place on
-module _ (xs bs ys : List ℕ) (at k : ℕ) (is : ys ≡ bs) (fits : at + length bs ≤ length xs) where
-  pub written : take (at + length bs) (put_mid at k xs ys) ≡ take at xs ++ bs
-  written = take-put_mid at k xs ys (at + length bs) (omega (arith, ap length is)) (omega arith) ∙ ap (λ l. take at xs ++ l) is
-
-  pub written_behind : k ≡ length bs → drop (at + length bs) (put_mid at k xs ys) ≡ drop (length bs) (drop at xs)
-  written_behind e = drop-put_mid at k xs ys (at + length bs) (omega arith) (omega arith) (omega (arith, ap length is)) ∙ sym (drop-drop (length bs) at xs)
-
-  pub written_room : k ≡ length bs → length bs + length (drop (at + length bs) (put_mid at k xs ys)) ≡ length (drop at xs)
-  written_room e = omega (arith, ap length (written_behind e), length-drop (length bs) (drop at xs), length-drop at xs)
+-- bs is written over the bytes behind the text
+pub adds_written : {p q : Page} {bs ys : List ℕ} {k : ℕ} → q.bytes.now ≡ put_mid p.end k p.bytes.now ys → q.end ≡ p.end + length bs → SameLender p q → ys ≡ bs → k ≡ length bs → p.end + length bs ≤ length p.bytes.now → Adds p bs q
+adds_written {p} {q} {bs} {ys} {k} wrote ends lender is long fits =
+    let xs = p.bytes.now in
+    let after : behind q ≡ drop (length bs) (behind p) =
+    (λ i. drop (ends i) (wrote i)) ∙ drop-put_mid p.end k xs ys (p.end + length bs) (omega arith) p.inside (ap length is ∙ sym long) ∙ sym (drop-drop (length bs) p.end xs) in
+    record {
+      text = (λ i. take (ends i) (wrote i)) ∙ take-put_mid p.end k xs ys (p.end + length bs) (omega (arith, ap length is)) p.inside ∙ ap (λ l. take p.end xs ++ l) is;
+      behind = after;
+      room = omega (arith, ap length after, length-drop (length bs) (behind p), length-drop p.end xs);
+      lender = lender;
+    }
 
 pub ruleset puts = (adds_then, length-append)

@@ -1,5 +1,5 @@
-// Numbers as decimal digits, from the first to the last. By cases of their length and two digits at a time, since a program
-// that prints accounts spends much of its time on digits: `itoa`, which goes through a buffer, takes half as long again.
+// Numbers as decimal digits, from the first to the last: by cases of their length and two digits at a time, since a program
+// that prints accounts spends much of its time on digits. With `itoa`, which goes through a buffer, it takes a third longer.
 ghost use Rattle.std.specs.Prelude.{◌≡◌, ◌^◌, ◌<◌, ◌≤◌, length, decimal};
 ghost use Rattle.lines.specs.Page.{room, HasRoom, Adds};
 ghost use Rattle.lines.specs.Digits.{two_digits, four_digits, eight_digits, decimal_size};

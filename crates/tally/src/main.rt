@@ -1,11 +1,12 @@
 // Reads report frames on standard input and prints a line for each, up to the first fault.
 #![tactic(auto)]
 
-ghost use Rattle.std.specs.Prelude.{◌≤◌, length, IfSome, IfOk};
+ghost use Rattle.std.specs.Prelude.{ℕ, ◌≤◌, vec_len};
 
 use anyhow::Context;
 use frame::FRAME;
 use lines::LINE;
+use std::alloc::{AllocError, Global};
 use std::io::{Read, Write};
 use stream::{Tally, keep_rest};
 
@@ -16,66 +17,67 @@ const BLOCK: usize = FRAMES * FRAME;
 
 const PAGE: usize = FRAMES * LINE;
 
-// Reads once behind the bytes that are left over, and prints what can be told. How many bytes are
-// left over then, or nothing where the input has ended, or a fault ended it.
-fn pass_on<R: Read, W: Write>(
-    input: &mut R,
-    output: &mut W,
-    tally: &mut Tally,
-    block: &mut [u8],
-    page: &mut [u8],
+// An input that is told of on an output. The first `left` bytes of the block are left over from
+// what was read.
+#[derive(Drop)]
+struct Session<R, W> {
+    input: R,
+    output: W,
+    tally: Tally,
+    block: Vec<u8>,
     left: usize,
-) -> anyhow::Result<Option<usize>>
-    requires { left ≤ length block.old }
-    ensures { IfOk result (λ o. IfSome o (λ n. n ≤ length block.old)) }
-{
-    let filled = left + input.read(&mut block[left..])?;
-    if filled == left {
-        print_rest(output, tally, &block[0..left], page)?;
-        return Ok(None);
-    }
-    let end = tally
-        .tell_block(&block[0..filled], page)
-        .context("no room for the lines")?;
-    output.write_all(&page[0..end])?;
-    if tally.has_ended() {
-        return Ok(None);
-    }
-    Ok(Some(keep_rest(block, filled)))
+    page: Vec<u8>,
+    ghost inside: { left ≤ vec_len block },
 }
 
-// Prints what is told of the bytes that the input ends with.
-fn print_rest<W: Write>(
-    output: &mut W,
-    tally: &mut Tally,
-    rest: &[u8],
-    page: &mut [u8],
-) -> anyhow::Result<()> {
-    let end = tally.tell_rest(rest, page).context("no room for a line")?;
-    output.write_all(&page[0..end])?;
-    Ok(())
+impl<R: Read + Drop, W: Write + Drop> Session<R, W> {
+    fn new(alloc: Global, input: R, output: W) -> Result<Session<R, W>, AllocError> {
+        Ok(Session {
+            input,
+            output,
+            tally: Tally::new(),
+            block: vec![in alloc; 0u8; BLOCK]?,
+            left: 0,
+            page: vec![in alloc; 0u8; PAGE]?,
+        })
+    }
+
+    // Reads once behind the bytes that are left over, and prints what can be told. Whether the
+    // input goes on: it has not ended, and no fault ended it.
+    fn pass_on(&mut self) -> anyhow::Result<bool> {
+        let count = self.input.read(&mut self.block[self.left..])?;
+        if count == 0 {
+            self.print_rest()?;
+            return Ok(false);
+        }
+        let filled = self.left + count;
+        let end = self
+            .tally
+            .tell_block(&self.block[0..filled], &mut self.page)
+            .context("no room for the lines")?;
+        self.output.write_all(&self.page[0..end])?;
+        self.left = keep_rest(&mut self.block, filled);
+        Ok(!self.tally.has_ended())
+    }
+
+    // Prints what is told of the bytes that the input ends with.
+    fn print_rest(&mut self) -> anyhow::Result<()> {
+        let end = self
+            .tally
+            .tell_rest(&self.block[0..self.left], &mut self.page)
+            .context("no room for a line")?;
+        self.output.write_all(&self.page[0..end])?;
+        Ok(())
+    }
 }
 
 fn run(rt: &HostRuntime) -> anyhow::Result<()> {
-    let mut input = rt.stdin();
-    let mut output = rt.stdout();
-    let mut block = vec![in rt.alloc(); 0u8; BLOCK]?;
-    let mut page = vec![in rt.alloc(); 0u8; PAGE]?;
-    let mut tally = Tally::new();
-    let mut left = 0;
+    let mut session = Session::new(rt.alloc(), rt.stdin(), rt.stdout())?;
+    // Not `loop`: one that need not end takes a handle that is not allowed here, so this one counts.
     for _ in 0..u64::MAX {
-        let Some(over) = pass_on(
-            &mut input,
-            &mut output,
-            &mut tally,
-            &mut block,
-            &mut page,
-            left,
-        )?
-        else {
+        if !session.pass_on()? {
             break;
-        };
-        left = over;
+        }
     }
     Ok(())
 }

@@ -27,10 +27,9 @@ fn switched(time: u32, interval: Option<u32>) -> Elapsed {
 
 // The number that a report is refused with, or 0.
 fn refused(records: &mut [AccountRecord], report: &Report) -> u8 {
-    match read_one(records, report) {
-        Ok(_) => 0,
-        Err(refusal) => refusal.number(),
-    }
+    read_one(records, report)
+        .err()
+        .map_or(0, |refusal| refusal.number())
 }
 
 // The number that the last of some reports is refused with, the others read: 99 where another is.
@@ -38,13 +37,8 @@ fn last_refused(reports: &[Report]) -> u8 {
     let mut records = closed_records();
     match read_all(&mut records, reports) {
         Ok(()) => 0,
-        Err(stop) => {
-            if stop.index + 1 == reports.len() {
-                stop.refusal.number()
-            } else {
-                99
-            }
-        }
+        Err(stop) if stop.index + 1 == reports.len() => stop.refusal.number(),
+        Err(_) => 99,
     }
 }
 
@@ -55,22 +49,18 @@ fn an_account_grows_switches_and_closes(rt: HostRuntime) -> Result<(), Fail> {
     assert!(rt; first.is_ok());
     let second = read_one(&mut records, &active(2, switched(400, Some(800))));
     assert!(rt; second.is_ok());
-    match read_one(&mut records, &active(2, Elapsed::Plain(1))) {
-        Ok(reading) => assert_eq!(rt; reading.status, Status::Repeat),
-        Err(_) => return Err(Fail::new("a repeat is refused")),
-    }
-    match read_one(
-        &mut records,
-        &report(2, 3, Standing::Released, switched(450, None)),
-    ) {
-        Ok(reading) => {
-            assert_eq!(rt; reading.status, Status::Closed);
-            assert_eq!(rt; reading.account.tariff, 2);
-            let [one, two, ..] = reading.account.ticks;
-            assert_eq!(rt; (one, two), (800, 450));
-        }
-        Err(_) => return Err(Fail::new("the last report is refused")),
-    }
+    let again = read_one(&mut records, &active(2, Elapsed::Plain(1))).map_err(|_| Fail::new(
+        "a repeat is refused",
+    ))?;
+    assert_eq!(rt; again.status, Status::Repeat);
+    let last = report(2, 3, Standing::Released, switched(450, None));
+    let closed = read_one(&mut records, &last).map_err(|_| Fail::new(
+        "the last report is refused",
+    ))?;
+    assert_eq!(rt; closed.status, Status::Closed);
+    assert_eq!(rt; closed.account.tariff, 2);
+    let [one, two, ..] = closed.account.ticks;
+    assert_eq!(rt; (one, two), (800, 450));
     assert_eq!(rt;
         refused(&mut records, &active(1, Elapsed::Plain(0))),
         0,
@@ -130,35 +120,23 @@ fn a_broken_rule_is_refused(rt: HostRuntime) {
 
 // Reads the first report of each address from 1 on, as many as asked for: the first refusal's number.
 fn open_all(records: &mut [AccountRecord], count: u8) -> u8 {
-    for address in 0..count {
-        let number = refused(
-            records,
-            &report(
-                address.saturating_add(1),
-                1,
-                Standing::Active,
-                Elapsed::Plain(0),
-            ),
-        );
-        if number != 0 {
-            return number;
-        }
-    }
-    0
+    (1..=count)
+        .map(|address| {
+            refused(
+                records,
+                &report(address, 1, Standing::Active, Elapsed::Plain(0)),
+            )
+        })
+        .find(|number| *number != 0)
+        .unwrap_or(0)
 }
 
 // Reads reports that each switch once more, as many as asked for: the first refusal's number.
 fn switch_all(records: &mut [AccountRecord], count: u16) -> u8 {
-    for before in 0..count {
-        let number = refused(
-            records,
-            &active(before.saturating_add(1), switched(1, Some(1))),
-        );
-        if number != 0 {
-            return number;
-        }
-    }
-    0
+    (1..=count)
+        .map(|number| refused(records, &active(number, switched(1, Some(1)))))
+        .find(|number| *number != 0)
+        .unwrap_or(0)
 }
 
 #[test]

@@ -21,10 +21,9 @@ fn sample() -> Report {
 
 // The number and the place of the refusal of some bytes, or 0 and 0 where they are read.
 fn refused(bytes: &[u8]) -> (u8, usize) {
-    match read(bytes) {
-        Ok(_) => (0, 0),
-        Err(refusal) => (refusal.number(), refusal.place().unwrap_or(0)),
-    }
+    read(bytes).err().map_or((0, 0), |refusal| {
+        (refusal.number(), refusal.place().unwrap_or(0))
+    })
 }
 
 // A byte of the sample changed: where it is refused.
@@ -38,13 +37,9 @@ fn refused_with(at: usize, byte: u8) -> (u8, usize) {
 
 #[test]
 fn the_sample_is_read_and_written(rt: HostRuntime) -> Result<(), Fail> {
-    match read(&SAMPLE) {
-        Ok((report, rest)) => {
-            assert_eq!(rt; report, sample());
-            assert!(rt; rest.is_empty());
-        }
-        Err(_) => return Err(Fail::new("the sample is refused")),
-    }
+    let (report, rest) = read(&SAMPLE).map_err(|_| Fail::new("the sample is refused"))?;
+    assert_eq!(rt; report, sample());
+    assert!(rt; rest.is_empty());
     let mut place = [7u8; 26];
     assert_eq!(rt; write(sample(), &mut place), Ok(()));
     assert!(rt; place[0..24] == SAMPLE[0..24]);

@@ -20,19 +20,9 @@ fn frame_of(number: u16, standing: Standing, elapsed: Elapsed) -> [u8; 24] {
 // What is told of a block of whole frames by a tally.
 fn told<'a>(tally: &mut Tally, block: &[u8], page: &'a mut [u8]) -> &'a [u8] {
     match tally.tell_block(block, page) {
-        Some(end) => {
-            if end <= page.len() {
-                &page[0..end]
-            } else {
-                &page[0..0]
-            }
-        }
+        Some(end) => &page[0..end],
         None => b"no room",
     }
-}
-
-fn same(text: &[u8], other: &[u8]) -> bool {
-    text == other
 }
 
 #[test]
@@ -73,6 +63,6 @@ fn an_input_may_end_between_frames_only(rt: HostRuntime) {
     assert_eq!(rt; tally.tell_block(&first, &mut page), Some(18));
     assert_eq!(rt; tally.tell_rest(&[], &mut page), Some(0));
     assert_eq!(rt; tally.tell_rest(&first[0..13], &mut page), Some(18));
-    assert!(rt; same(&page[0..18], b"fault frame 15 37\n"));
+    assert!(rt; &page[0..18] == b"fault frame 15 37\n".as_slice());
     assert_eq!(rt; tally.tell_block(&first, &mut [0u8; 799]), None);
 }
