@@ -159,13 +159,6 @@ module _ (clock : ℕ) (ss : List (Option Place)) (p : Place) (rest : List (Opti
     pub more : (best o r : Option Item) → o ≡ new → r ≡ sooner best o → Best (dues_of ss) (PassedTo p rest k) best → Best (dues_of ss) (PassedTo p rest (k + 1)) r
     more best o r e q h = subst (Best (dues_of ss) (PassedTo p rest (k + 1))) (sym q) (step best o (sym e) h)
 
--- at first all are to come, and nothing is passed
-pub all_come : (clock : ℕ) (ss : List (Option Place)) → distinct ss ≡ true → ((k : ℕ) → fit_place clock (get_or ss k None) ≡ true) → Coming clock ss ss
-all_come clock ss d f = record { apart = d; fitting = f; there = λ a c e. e }
-
-pub none_passed : (ss : List (Option Place)) → Best (dues_of ss) (Passed ss) None
-none_passed ss x d p = none_some (sym (nothing x.timer) ∙ (ap (λ o. due_of (dues_in o) x.timer) (sym p) ∙ d.runs))
-
 -- what runs and has none before it is the first of all
 first_of_all : (f : Address → Dues) (best : Option Item) → Best f (λ x. Unit {0}) best → best ≡ soonest f
 first_of_all f None h = sym (go (soonest f) refl)

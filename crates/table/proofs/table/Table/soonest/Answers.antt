@@ -1,6 +1,6 @@
-use Rattle.std.proofs.Common.{◌≡◌, ◌∷◌, None, Some, sym, ap, ◌∙◌, subst}
+use Rattle.std.proofs.Common.{◌≡◌, ◌∷◌, None, Some, ap, ◌∙◌, subst}
 use Rattle.std.specs.Slice.Iter.{iter_rest}
-use Rattle.table.proofs.Seeking.{Best, Coming, Passed, dues_of, more, onward, enter, leave, all_come, none_passed, at_last}
+use Rattle.table.proofs.Seeking.{Best, Coming, Passed, dues_of, more, onward, enter, leave, at_last}
 use Rattle.table.proofs.table.Table.soonest.Goals as goal
 
 pub timers-preserved : goal.timers-preserved
@@ -30,14 +30,6 @@ connections-preserved-in_default-slot c =
     record {
       coming = onward t.clock t.slots None (iter_rest c.next.new.self) (subst (Coming t.clock t.slots) steps c.connections.invariant.coming);
       first = subst (λ ss. Best (dues_of t.slots) (Passed ss) c.connections.best) steps c.connections.invariant.first;
-    }
-
-pub connections-init : goal.connections-init
-connections-init c =
-    let t = c.args.self.now in
-    record {
-      coming = subst (Coming t.clock t.slots) (sym c.iter-slots.ensures.rest) (all_come t.clock t.slots t.apart t.fitting);
-      first = subst (λ ss. Best (dues_of t.slots) (Passed ss) None) (sym c.iter-slots.ensures.rest) (none_passed t.slots);
     }
 
 pub returns : goal.returns
