@@ -1,5 +1,5 @@
 -- What a write behind those that wait and a read of the oldest do to a ring of frames. Assumes nothing.
-use Rattle.std.proofs.Common.{◌≡◌, ℕ, ◌+◌, ◌-◌, ◌/◌, Bool, true, false, cond, List, [], ◌∷◌, ◌++◌, length, Ok, Err, Result, sym, refl, ap, ◌∙◌, subst, arith, MatchResult}
+use Rattle.std.proofs.Common.{◌≡◌, ℕ, ◌+◌, ◌-◌, ◌/◌, Bool, cond, List, [], ◌∷◌, ◌++◌, length, Ok, Err, Result, sym, refl, ap, ◌∙◌, subst, arith, MatchResult}
 use Rattle.std.proofs.lemmas.List.{length_push, nil_from_length}
 use Rattle.report.specs.Lawful.{lawful}
 use Rattle.report.specs.declared.refusal.Refusal.{Refusal}
@@ -46,13 +46,12 @@ is_appended b b' w r t size is enters f =
 
 -- why a report is refused while no place is free
 why_full : (ok : Bool) (free : ℕ) (e : Refusal) → free ≡ 0 → e ≡ cond ok NoFreePlace OutOfRange → cond ok ((free ≡ 0) × (e ≡ NoFreePlace)) (e ≡ OutOfRange)
-why_full true free e none is = (none, is)
-why_full false free e none is = is
+why_full ok free e none is = grind arith
 
 pub is_full : (b : List ℕ) (w : Window) (r : Report) (e : Refusal) (size : ℕ) → size ≡ places_in b → count_of size w ≡ size → e ≡ cond (lawful r) NoFreePlace OutOfRange → NotAppended b w r e b
 is_full b w r e size is full why =
-    let all = ap (λ k. count_of k w) (sym is) ∙ full ∙ is in
-    record { sends = (why_full (lawful r) _ e (omega (arith, length_waiting b w, all)) why, refl); same = refl; sum = makes_up b w }
+    let none : places_in b - length (waiting b w) ≡ 0 = omega (arith, length_waiting b w, ap (λ k. count_of k w) is) in
+    record { sends = (why_full (lawful r) _ e none why, refl); same = refl; sum = makes_up b w }
 
 -- the report in the window's first place is the oldest
 pub is_first : (b : List ℕ) (w : Window) (r : Report) (t : Turn) (size : ℕ) → size ≡ places_in b → Leaves size w t → r ≡ place_at b t.place → First b w r t.window
@@ -70,7 +69,7 @@ is_first b w r t size is leaves reads =
 
 -- nothing waits in a window without places
 pub none_waits : (b : List ℕ) (w : Window) (size : ℕ) → size ≡ places_in b → count_of size w ≡ 0 → waiting b w ≡ []
-none_waits b w size is none = nil_from_length (waiting b w) (length_waiting b w ∙ ap (λ k. count_of k w) (sym is) ∙ none)
+none_waits b w size is none = nil_from_length (waiting b w) (omega (arith, length_waiting b w, ap (λ k. count_of k w) is))
 
 -- what one send through a ring in which nothing waited leaves in the bytes that were lent to it
 pub sent-once :

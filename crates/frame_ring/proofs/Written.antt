@@ -1,11 +1,12 @@
 -- What a write into one place does to the bytes, and to the reports that their places mean. Assumes nothing.
-use Rattle.std.proofs.Common.{◌≡◌, ℕ, ◌+◌, ◌-◌, ◌*◌, ◌/◌, ◌<◌, ◌≤◌, eqb, ltb, List, ◌++◌, length, get_or, take, drop, set, sym, ap, ◌∙◌, append-nil, arith, take-append-drop}
+use Rattle.std.proofs.Common.{⊎_elim, ◌≡◌, ℕ, ◌+◌, ◌-◌, ◌*◌, ◌/◌, ◌<◌, List, ◌++◌, length, get_or, take, drop, set, sym, ap, ◌∙◌, arith, take-append-drop}
 use borrow.Rule.Slice.PartMut.{put_mid}
 use Rattle.std.proofs.lemmas.List.FromFn.{length-map-range_with_len, get_or-map-range_with_len}
-use Rattle.std.proofs.lemmas.List.{same_lists, get_or-set_same, get_or-set_other, length-set, length-append, length-take, length-drop, drop-drop, drop_all}
+use Rattle.std.proofs.lemmas.List.{same_lists, get_or-set_same, get_or-set_other, length-set, length-append, length-take, length-drop, drop-drop}
 use Rattle.std.proofs.lemmas.Slice.{between_is, take-put_mid_below, drop-put_mid, between-put_mid}
-use Rattle.std.proofs.lemmas.Bool.{cond_both, eqb-true, eqb-false, ltb-true, ltb-false}
+use Rattle.std.proofs.lemmas.Bool.{cases_eq}
 use Rattle.std.proofs.lemmas.Bool.Decides.{nat_tests}
+use Rattle.std.proofs.lemmas.Grind.{common_steps}
 use Rattle.report.specs.declared.refusal.Refusal.{Refusal}
 use Rattle.report.specs.declared.report.Report.{Report}
 use Rattle.frame.specs.Frame.{frame, decode, FrameWritten, FrameUnwritten}
@@ -32,7 +33,7 @@ put b i part = put_mid (24 * i) 24 b part
 
 -- a place ends where the next begins
 up_to : (b : List ℕ) (i : ℕ) → place b i ≡ drop (24 * i) (take (24 * i + 24) b)
-up_to b i = let e : 24 ≡ 24 * i + 24 - 24 * i = omega arith in ap (λ n. take n (drop (24 * i) b)) e ∙ between_is b (24 * i) (24 * i + 24)
+up_to b i = grind (arith, common_steps, between_is b (24 * i) (24 * i + 24))
 
 -- a whole place has 24 bytes
 length_place : (b : List ℕ) (i : ℕ) → i < places_in b → length (place b i) ≡ 24
@@ -44,9 +45,7 @@ module _ (b part : List ℕ) (i : ℕ) (lt : i < places_in b) (long : length par
 
   -- the place holds the part
   here : place (put b i part) i ≡ part
-  here =
-      let n : 24 ≡ 24 * i + 24 - 24 * i = omega arith in
-      ap (λ k. take k (drop (24 * i) (put b i part))) n ∙ between-put_mid (24 * i) 24 b part (24 * i + 24) (omega arith) (omega arith)
+  here = grind (arith, common_steps, between-put_mid (24 * i) 24 b part (24 * i + 24))
 
   -- the places before it and after it stay, and so do the bytes past the last whole place
   earlier : (j : ℕ) → j < i → place (put b i part) j ≡ place b j
@@ -56,10 +55,7 @@ module _ (b part : List ℕ) (i : ℕ) (lt : i < places_in b) (long : length par
   onward j more = drop-put_mid (24 * i) 24 b part (24 * j) (omega arith) (omega arith) long
 
   other : (j : ℕ) → (j ≡ i → ⊥) → place (put b i part) j ≡ place b j
-  other j ne =
-      cond_both {A = ℕ} (ltb j i) 0 0 (λ _. place (put b i part) j ≡ place b j)
-      (λ t. earlier j (ltb-true j i t))
-      (λ t. ap (take 24) (onward j (omega (arith, ltb-false j i t, ne))))
+  other j ne = grind (arith, common_steps, earlier j, onward j)
 
   places_put : (r : Report) → decode part ≡ r → places (put b i part) ≡ set (places b) i r
   places_put r means =
@@ -69,26 +65,22 @@ module _ (b part : List ℕ) (i : ℕ) (lt : i < places_in b) (long : length par
       let size' = length_places c in
       let sized = length-set (places b) i r in
       same_lists (places c) (set (places b) i r) (omega arith)
-      (λ j d h. cond_both {A = ℕ} (eqb j i) 0 0 (λ _. get_or (places c) j d ≡ get_or (set (places b) i r) j d)
-      (λ t. let k = eqb-true j i t in
-      ap (λ n. get_or (places c) n d) k ∙ get_or-places c i d (omega arith) ∙ ap decode here ∙ means
-      ∙ sym (get_or-set_same (places b) i r d (omega arith)) ∙ ap (λ n. get_or (set (places b) i r) n d) (sym k))
-      (λ t. get_or-places c j d (omega arith) ∙ ap decode (other j (eqb-false j i t)) ∙ sym (get_or-places b j d (omega arith))
-      ∙ sym (get_or-set_other (places b) i j r d (eqb-false j i t))))
+      (λ j d h. ⊎_elim
+      (λ is. grind (arith, common_steps, is, here, means, get_or-places c j d, get_or-set_same (places b) i r d))
+      (λ ne. get_or-places c j d (omega arith) ∙ ap decode (other j ne) ∙ sym (get_or-places b j d (omega arith)) ∙ sym (get_or-set_other (places b) i j r d ne))
+      (cases_eq j i))
 
 -- the part of the bytes from 24 * i to 24 * i + 24 is a place
 pub is_place : (b : List ℕ) (i : ℕ) → take (24 * i + 24 - 24 * i) (drop (24 * i) b) ≡ place b i
-is_place b i = let n : 24 * i + 24 - 24 * i ≡ 24 = omega arith in ap (λ k. take k (drop (24 * i) b)) n
+is_place b i = grind (arith, common_steps)
 
 -- a write to that part is a write into the place
 is_put : (b part : List ℕ) (i : ℕ) → put_mid (24 * i) (24 * i + 24 - 24 * i) b part ≡ put b i part
-is_put b part i = let n : 24 * i + 24 - 24 * i ≡ 24 = omega arith in ap (λ k. put_mid (24 * i) k b part) n
+is_put b part i = grind (arith, common_steps)
 
 -- the frame fills the place
 fills : (b part fr : List ℕ) (i : ℕ) → part ≡ fr ++ drop 24 (place b i) → part ≡ fr
-fills b part fr i e =
-    let short : length (place b i) ≤ 24 = omega (arith, length-take 24 (drop (24 * i) b)) in
-    e ∙ ap (λ l. fr ++ l) (drop_all 24 (place b i) short) ∙ append-nil fr
+fills b part fr i e = grind (arith, common_steps)
 
 -- what the writer leaves in that part fills the place
 pub is_filled : (b part : List ℕ) (i : ℕ) (r : Report) → i < places_in b → FrameWritten r (take (24 * i + 24 - 24 * i) (drop (24 * i) b)) part → Filled b i r (put_mid (24 * i) (24 * i + 24 - 24 * i) b part)

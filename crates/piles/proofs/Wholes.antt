@@ -1,16 +1,16 @@
 -- Links that are filled to the last place, and emptied; and the piles among them. Assumes nothing.
-use Rattle.std.proofs.Common.{◌≡◌, ℕ, ◌+◌, ◌-◌, ◌<◌, ◌≤◌, min, true, cond, ltb, List, [], ◌++◌, length, take, Some, None, Option, sym, refl, ap, ◌∙◌, subst, append-nil, arith, length-append, length-drop, length-take}
+use Rattle.std.proofs.Common.{◌≡◌, ℕ, ◌<◌, ◌≤◌, min, true, cond, ltb, List, [], length, Some, None, Option, refl, ap, arith}
 use Rattle.std.proofs.ByRecursion.{All-drop}
-use Rattle.std.proofs.lemmas.List.{nil_from_length}
-use Rattle.std.proofs.lemmas.Bool.{cond-true, cond-false, lt-ltb, le-ltb}
+use Rattle.std.proofs.lemmas.Bool.Decides.{nat_tests}
+use Rattle.std.proofs.lemmas.Grind.{common_steps}
 use Rattle.report.specs.declared.refusal.Refusal.{Refusal}
-use Rattle.report.specs.declared.refusal.Refusal.TheVariants.{OutOfRange, NoFreePlace}
+use Rattle.report.specs.declared.refusal.Refusal.TheVariants.{NoFreePlace}
 use Rattle.report.specs.declared.report.Report.{Report}
 use Rattle.report.specs.Lawful.{lawful}
 use Rattle.link.specs.Links.{View}
 use Rattle.link.specs.Records.{record_whole}
 use Rattle.frame_ring.specs.Ring.{frame_whole}
-use Rattle.reserve.specs.Lies.{reserve_places, layer_whole, AllLawful}
+use Rattle.reserve.specs.Lies.{layer_whole, AllLawful}
 use Rattle.piles.specs.Batches.{SentFirst, RefusedNext, Stops, TookFirst, empty, Fills, Empties}
 use Rattle.piles.specs.Piles.{Kind, Pile, pile_view, pile_places, Learns, EachPileStands}
 use Rattle.piles.specs.Piles.Kind.{records, frames, above}
@@ -18,47 +18,27 @@ use Rattle.piles.proofs.Kept.{keeps_all}
 
 -- a view with nothing waiting and all of so many places free
 is_empty : (v : View) (n : ℕ) → v.waiting ≡ [] → v.free ≡ v.capacity → v.capacity ≡ n → v ≡ empty n
-is_empty v n none whole size = λ i. record { waiting = none i; free = (whole ∙ size) i; capacity = size i }
+is_empty v n none whole size = grind arith
 
 -- a lawful report is refused only where no place is free
 refused_lawful : (e : Refusal) (w : View) (rs : List Report) (n : ℕ) → AllLawful rs → RefusedNext e w rs n → (n < length rs) × (w.free ≡ 0) × (e ≡ NoFreePlace)
-refused_lawful e w rs n all so =
-    let rest = All-drop (λ r. lawful r ≡ true) n rs all in
-    let law = (subst AllLawful so.left rest).0 in
-    let why = subst (λ b. cond b ((w.free ≡ 0) × (e ≡ NoFreePlace)) (e ≡ OutOfRange)) law so.why.0 in
-    (omega (arith, ap length so.left, length-drop n rs), why.0, why.1)
+refused_lawful e w rs n all so = let rest = All-drop (λ r. lawful r ≡ true) n rs all in grind (arith, common_steps, so.left, so.why)
 
 -- what is left to show of an empty link that is filled: how many went, and why no more did
 as_filled : (v w : View) (rs : List Report) (n : ℕ) (why : Option Refusal) → v.waiting ≡ [] → v.free ≡ v.capacity → SentFirst v rs n w → n ≡ min (length rs) v.capacity → why ≡ cond (ltb v.capacity (length rs)) (Some NoFreePlace) None → Fills v.capacity rs n why w
-as_filled v w rs n why none whole so count refusal =
-    record {
-      count = count;
-      refusal = refusal;
-      list = ap (λ x. x.waiting) so.is ∙ ap (λ l. l ++ take n rs) none;
-      free = ap (λ x. x.free) so.is ∙ ap (λ f. f - n) whole;
-      capacity = ap (λ x. x.capacity) so.is;
-    }
+as_filled v w rs n why none whole so count refusal = grind (arith, common_steps)
 
 -- an empty link is filled to the last place
 filled : (v w : View) (rs : List Report) (n : ℕ) (why : Option Refusal) → v.waiting ≡ [] → v.free ≡ v.capacity → AllLawful rs → SentFirst v rs n w → Stops why w rs n → Fills v.capacity rs n why w
-filled v w rs n None none whole all so stops =
-    as_filled v w rs n None none whole so (omega (arith, so.room))
-    (sym (cond-false (ltb v.capacity (length rs)) (Some NoFreePlace) None (le-ltb v.capacity (length rs) (omega (arith, so.room)))))
+filled v w rs n None none whole all so stops = as_filled v w rs n None none whole so (omega (arith, so.room)) (grind (arith, nat_tests, so.room))
 filled v w rs n (Some e) none whole all so stops =
     let next = refused_lawful e w rs n all stops in
     let full : n ≡ v.capacity = omega (arith, so.room, next.1, ap (λ x. x.free) so.is) in
-    as_filled v w rs n (Some e) none whole so (omega (arith, next.0))
-    (ap Some next.2 ∙ sym (cond-true (ltb v.capacity (length rs)) (Some NoFreePlace) None (lt-ltb v.capacity (length rs) (omega (arith, next.0)))))
+    as_filled v w rs n (Some e) none whole so (omega (arith, next.0)) (grind (arith, nat_tests, next))
 
 -- a link whose reports fit into a place is emptied into it
 emptied : (v w : View) (old new : List Report) (n : ℕ) → (w.waiting ≡ [] → w.free ≡ w.capacity) → length v.waiting ≤ length old → TookFirst v old n new w → n ≡ min (length old) (length v.waiting) → Empties v n new w
-emptied v w old new n whole fits so count =
-    let none : w.waiting ≡ [] = nil_from_length w.waiting (omega (arith, so.size, ap length so.out, length-append (take n new) w.waiting, length-take n new)) in
-    record {
-      count = omega arith;
-      order = sym (so.out ∙ ap (λ l. take n new ++ l) none ∙ append-nil (take n new));
-      after = is_empty w v.capacity none (whole none) so.capacity;
-    }
+emptied v w old new n whole fits so count = grind (arith, common_steps)
 
 -- generic code learns the same of every link whose empty list has its whole capacity free
 pub learned : {S : Type 0} (view : S → View) → ((s : S) → (view s).waiting ≡ [] → (view s).free ≡ (view s).capacity) → Learns view
@@ -79,7 +59,7 @@ pile_whole (above k) s e = layer_whole (pile_view k) (pile_whole k) s e
 pile_size : (k : Kind) (s : Pile k) → (pile_view k s).capacity ≡ pile_places k s
 pile_size records s = refl
 pile_size frames s = refl
-pile_size (above k) s = ap (λ n. n + reserve_places) (pile_size k s.below)
+pile_size (above k) s = omega (arith, pile_size k s.below)
 
 -- what generic code learns holds of every pile
 pub every_pile : EachPileStands

@@ -1,8 +1,10 @@
 -- How the reports of a reserve come, go and move down. Assumes nothing.
-use Rattle.std.proofs.Common.{◌≡◌, ℕ, zero, suc, ◌+◌, ◌-◌, ◌<◌, ◌≤◌, true, false, eqb, ltb, List, [], ◌∷◌, ◌++◌, length, get_or, take, drop, Ok, sym, refl, ap, ◌∙◌, subst, ⊎_elim, append_assoc, arith, length-drop, take-append-drop}
+use Rattle.std.proofs.Common.{◌≡◌, ℕ, ◌+◌, ◌-◌, ◌<◌, ◌≤◌, true, false, List, [], ◌∷◌, ◌++◌, length, get_or, take, drop, Ok, sym, ap, ◌∙◌, subst, ⊎_elim, append_assoc, arith, length-drop}
 use Rattle.std.proofs.ByRecursion.{All-push, All-drop}
 use Rattle.std.proofs.lemmas.List.{drop_more, take_more, nil_from_length, length_push}
-use Rattle.std.proofs.lemmas.Bool.{and_cases, ltb-false, eqb-false, cond-false, cases_eq, lt-ltb, le-ltb}
+use Rattle.std.proofs.lemmas.Bool.{cond-false, cases_eq, lt-ltb, le-ltb}
+use Rattle.std.proofs.lemmas.Bool.Decides.{nat_tests}
+use Rattle.std.proofs.lemmas.Grind.{common_steps}
 use Rattle.report.specs.declared.report.Report.{Report}
 use Rattle.report.specs.Lawful.{lawful}
 use Rattle.link.specs.Links.{with_one_more, Takes}
@@ -12,19 +14,13 @@ abbrev MayBeSent : Report → Type 0
 MayBeSent r = lawful r ≡ true
 
 when_held : (s : Lies) → goes_down s ≡ false → length s.held ≡ 0 → s.below.free ≡ 0
-when_held s e none =
-    ⊎_elim (λ p. absurd (eqb-false (length s.held) 0 p none)) (λ p. omega (arith, ltb-false 0 s.below.free p))
-    (and_cases (eqb (length s.held) 0) (ltb 0 s.below.free) e)
+when_held s e none = grind (arith, nat_tests)
 
 some_left : (n f : ℕ) → n < reserve_places → 0 < places_left n f
-some_left zero f lt = omega arith
-some_left (suc n) f lt = omega arith
+some_left n f lt = grind arith
 
 less_held : (n m f : ℕ) → n < reserve_places → m ≡ n + 1 → (n ≡ 0 → f ≡ 0) → places_left m f ≡ places_left n f - 1
-less_held zero zero f lt e none = absurd (omega arith)
-less_held zero (suc m) f lt e none = omega (arith, none refl)
-less_held (suc n) zero f lt e none = absurd (omega arith)
-less_held (suc n) (suc m) f lt e none = omega arith
+less_held n m f lt e none = grind arith
 
 pub placed_held : (s t : Lies) (r : Report) → lawful r ≡ true → goes_down s ≡ false → length s.held < reserve_places → t.below ≡ s.below → t.held ≡ s.held ++ r ∷ [] → Placed s r t
 placed_held s t r law here room same more =
@@ -83,28 +79,20 @@ settled_there s t u n few room is e =
     }
 
 more_below : (n f g : ℕ) → f ≤ g → places_left n f ≤ places_left n g
-more_below zero f g le = omega arith
-more_below (suc n) f g le = omega arith
+more_below n f g le = grind arith
 
 fewer_held : (n m f g : ℕ) → m < n → places_left n f ≤ places_left m g
-fewer_held zero m f g lt = absurd (omega arith)
-fewer_held (suc n) zero f g lt = omega arith
-fewer_held (suc n) (suc m) f g lt = omega arith
+fewer_held n m f g lt = grind arith
 
 -- to move reports down keeps the list, and loses no place
 settled_list : (s : Lies) (n : ℕ) → (stacked (moved n s)).waiting ≡ (stacked s).waiting
-settled_list s n = append_assoc s.below.waiting (take n s.held) (drop n s.held) ∙ ap (λ l. s.below.waiting ++ l) (take-append-drop n s.held)
+settled_list s n = grind (arith, common_steps)
 
 settled_free : (s : Lies) (n : ℕ) → n ≤ length s.held → n ≤ s.below.free → (stacked s).free ≤ (stacked (moved n s)).free
-settled_free s zero few room = more_below (length s.held) s.below.free (s.below.free - 0) (omega arith)
-settled_free s (suc n) few room = fewer_held (length s.held) (length (drop (suc n) s.held)) s.below.free (s.below.free - suc n) (omega (arith, length-drop (suc n) s.held))
+settled_free s n few room = grind (arith, common_steps)
 
 settled_sound : (s : Lies) → AllLawful s.held → Sound (moved (moving s) s)
-settled_sound s law =
-    record {
-      lawful = All-drop MayBeSent (moving s) s.held law;
-      settled = λ some. omega (arith, some, length-drop (moving s) s.held);
-    }
+settled_sound s law = grind (arith, common_steps)
 
 -- the oldest is out, and then held reports moved down
 taken_out : (s m t : Lies) (r : Report) → Draws s r m → Takes (stacked s) (Ok r) (stacked m) → (AllLawful s.held → AllLawful m.held) → Settles m t → TakenOut s r t

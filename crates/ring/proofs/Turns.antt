@@ -1,9 +1,9 @@
 -- What a write behind a queue and a read at its front do to the list that the window means. Assumes nothing.
-use Rattle.std.proofs.Common.{◌≡◌, ℕ, suc, ◌+◌, ◌-◌, ◌<◌, ◌≤◌, ltb, List, [], ◌∷◌, ◌++◌, length, get_or, take, drop, set, sym, ap, ◌∙◌, append_assoc, append-nil, arith, length-append, length-drop, length-set, length-take, drop-set-lt}
+use Rattle.std.proofs.Common.{◌≡◌, ℕ, suc, ◌+◌, ◌-◌, ◌<◌, ◌≤◌, List, [], ◌∷◌, ◌++◌, length, get_or, take, drop, set, sym, ap, ◌∙◌, append_assoc, arith, length-append, length-drop, length-set, length-take, drop-set-lt}
 use Rattle.std.proofs.Math.Seq.{take-set-lt}
-use Rattle.std.proofs.lemmas.List.{length_push, take_more_set, drop_more, take_more, set-append_left, set-append_right, take-append-le, drop-set-add, take-set-le, drop_all, take_all}
-use Rattle.std.proofs.lemmas.Bool.{cond_both, ltb-true, ltb-false}
+use Rattle.std.proofs.lemmas.List.{length_push, take_more_set, drop_more, take_more, set-append_left, set-append_right, take-append-le, drop-set-add, take-set-le}
 use Rattle.std.proofs.lemmas.Bool.Decides.{nat_tests}
+use Rattle.std.proofs.lemmas.Grind.{common_steps}
 use Rattle.ring.specs.Slots.{turned, queue, place_of, after, start_of, count_of, list, slot, grown, shrunk, Enters, Leaves, Appends, Heads}
 use Rattle.ring.specs.declared.window.Turn.{Turn}
 use Rattle.ring.specs.declared.window.Window.{Window}
@@ -50,27 +50,16 @@ module _ {T : Type 0} where
 
   -- a write past `head`, and one before it, is a write at `n` of the turned list
   set_after : (xs : List T) (h n : ℕ) (x : T) → h + n < length xs → turned (set xs (h + n) x) h ≡ set (turned xs h) n x
-  set_after xs h n x lt =
-      let back = drop-set-add h xs n x in
-      let front = take-set-le h xs (h + n) x (omega arith) in
-      ap (λ l. l ++ take h (set xs (h + n) x)) back ∙ ap (λ l. set (drop h xs) n x ++ l) front
-      ∙ sym (set-append_left (drop h xs) (take h xs) n x (omega (arith, length-drop h xs)))
+  set_after xs h n x lt = grind (arith, common_steps, drop-set-add h xs n x, take-set-le h xs (h + n) x, set-append_left (drop h xs) (take h xs) n x)
 
   set_before : (xs : List T) (h n : ℕ) (x : T) → h ≤ length xs → length xs - h ≤ n → n < length xs → turned (set xs (n - (length xs - h)) x) h ≡ set (turned xs h) n x
   set_before xs h n x le past lt =
       let i = n - (length xs - h) in
-      let back = drop-set-lt h xs i x (omega arith) in
-      let front = take-set-lt h xs i x (omega arith) in
-      ap (λ l. l ++ take h (set xs i x)) back ∙ ap (λ l. drop h xs ++ l) front
-      ∙ sym (set-append_right (drop h xs) (take h xs) (length xs - h) n x (length-drop h xs) past)
+      grind (arith, common_steps, drop-set-lt h xs i x, take-set-lt h xs i x, set-append_right (drop h xs) (take h xs) (length xs - h) n x (length-drop h xs) past)
 
   pushed : (xs : List T) (h n : ℕ) (x : T) → h < length xs → n < length xs → queue (set xs (place_of (length xs) h n) x) h (n + 1) ≡ queue xs h n ++ x ∷ []
   pushed xs h n x lt few =
-      let written : turned (set xs (place_of (length xs) h n) x) h ≡ set (turned xs h) n x =
-      cond_both (ltb n (length xs - h)) (h + n) (n - (length xs - h)) (λ i. turned (set xs i x) h ≡ set (turned xs h) n x)
-      (λ e. set_after xs h n x (omega (arith, ltb-true n (length xs - h) e)))
-      (λ e. set_before xs h n x (omega arith) (ltb-false n (length xs - h) e) few)
-      in
+      let written : turned (set xs (place_of (length xs) h n) x) h ≡ set (turned xs h) n x = grind (arith, nat_tests, set_after xs h n x, set_before xs h n x) in
       ap (take (n + 1)) written ∙ take_more_set (turned xs h) n x (omega (arith, length_turned xs h))
 
   -- the oldest, and then what is left
@@ -84,20 +73,17 @@ module _ {T : Type 0} where
   further : (xs : List T) (h m : ℕ) (x : T) → h < length xs → m < length xs → take m (drop (h + 1) xs ++ take h xs) ≡ queue xs (h + 1) m
   further xs h m x lt few =
       let last = take_more xs h x lt in
-      let long : m ≤ length (drop (h + 1) xs ++ take h xs) = simp (length-append, length-drop, length-take) (omega arith) in
-      sym (take-append-le m (drop (h + 1) xs ++ take h xs) (get_or xs h x ∷ []) long)
-      ∙ ap (take m) (append_assoc (drop (h + 1) xs) (take h xs) (get_or xs h x ∷ []) ∙ ap (λ l. drop (h + 1) xs ++ l) (sym last))
+      grind (arith, common_steps, append_assoc, take-append-le m (drop (h + 1) xs ++ take h xs) (get_or xs h x ∷ []))
 
   -- to turn by the whole row is not to turn
   whole : (xs : List T) (h : ℕ) → length xs ≤ h → turned xs h ≡ turned xs 0
-  whole xs h past = ap (λ l. l ++ take h xs) (drop_all h xs past) ∙ take_all h xs past ∙ sym (append-nil xs)
+  whole xs h past = grind (arith, common_steps)
 
   popped : (xs : List T) (h n : ℕ) (x : T) → h < length xs → x ≡ get_or xs h x → 0 < n → n ≤ length xs → queue xs h n ≡ x ∷ queue xs (after (length xs) h) (n - 1)
   popped xs h n x lt is some few =
-      let on = rest_of xs h n x lt is some ∙ ap (λ l. x ∷ l) (further xs h (n - 1) x lt (omega arith)) in
-      cond_both (ltb (h + 1) (length xs)) (h + 1) 0 (λ i. queue xs h n ≡ x ∷ queue xs i (n - 1))
-      (λ e. on)
-      (λ e. on ∙ ap (λ l. x ∷ take (n - 1) l) (whole xs (h + 1) (ltb-false (h + 1) (length xs) e)))
+      let rest = rest_of xs h n x lt is some in
+      let on = further xs h (n - 1) x lt (omega arith) in
+      grind (arith, common_steps, nat_tests, whole xs (h + 1))
 
   pub length_list : (xs : List T) (w : Window) → length (list xs w) ≡ count_of (length xs) w
   length_list xs w =
