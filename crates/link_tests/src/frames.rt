@@ -20,7 +20,7 @@ fn holds_only(bytes: &[u8], front: &[u8]) -> bool {
 }
 
 // Sends one report and the lawless one, each twice: what each is answered.
-fn send_four(bytes: &mut [u8]) -> [u8; 4] {
+fn send_four(bytes: &mut [u8]) -> [Result<(), u8>; 4] {
     let mut ring = FrameRing::new(bytes);
     [
         sent(&mut ring, lawless()),
@@ -36,7 +36,7 @@ fn too_few_bytes_are_no_place(rt: HostRuntime) -> Result<(), Fail> {
     let mut bytes = [UNTOUCHED; 23];
     fills_and_empties(&rt, &mut FrameRing::new(&mut bytes), 0)?;
     assert!(rt; holds_only(&bytes, &[]));
-    assert!(rt; send_four(&mut bytes) == [2, 11, 11, 2]);
+    assert!(rt; send_four(&mut bytes) == [Err(2), Err(11), Err(11), Err(2)]);
     assert!(rt; holds_only(&bytes, &[]), "a refused send writes nothing");
     Ok(())
 }
@@ -44,7 +44,7 @@ fn too_few_bytes_are_no_place(rt: HostRuntime) -> Result<(), Fail> {
 #[test]
 fn one_place_in_24_bytes(rt: HostRuntime) -> Result<(), Fail> {
     let mut bytes = [UNTOUCHED; 24];
-    assert!(rt; send_four(&mut bytes) == [2, 0, 11, 2]);
+    assert!(rt; send_four(&mut bytes) == [Err(2), Ok(()), Err(11), Err(2)]);
     assert!(rt; holds_only(&bytes, &FIRST));
     fills_and_empties(&rt, &mut FrameRing::new(&mut bytes), 1)?;
     goes_round(&rt, &mut FrameRing::new(&mut bytes), 1, 2)
@@ -53,7 +53,7 @@ fn one_place_in_24_bytes(rt: HostRuntime) -> Result<(), Fail> {
 #[test]
 fn one_place_in_47_bytes(rt: HostRuntime) -> Result<(), Fail> {
     let mut bytes = [UNTOUCHED; 47];
-    assert!(rt; send_four(&mut bytes) == [2, 0, 11, 2]);
+    assert!(rt; send_four(&mut bytes) == [Err(2), Ok(()), Err(11), Err(2)]);
     assert!(rt;
         holds_only(&bytes, &FIRST),
         "past the last whole place nothing is written"

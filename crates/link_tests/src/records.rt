@@ -31,5 +31,5 @@ fn a_report_comes_out_whole(rt: HostRuntime) {
     assert_eq!(rt; link.send(numbered(7)), Ok(()));
     assert_eq!(rt; link.take(), Ok(numbered(7)));
     assert_eq!(rt; link.take(), Err(Refusal::NothingWaits));
-    assert_eq!(rt; taken(&mut link), (0, 13));
+    assert_eq!(rt; taken(&mut link), Err(13));
 }

@@ -16,7 +16,7 @@ fn a_reserve_above_no_place(rt: HostRuntime) -> Result<(), Fail> {
     let mut layer = Reserve::new(Fifo::new(&mut []));
     fills_and_empties(&rt, &mut layer, RESERVE_PLACES)?;
     goes_round(&rt, &mut layer, RESERVE_PLACES, 9)?;
-    assert_eq!(rt; sent(&mut layer, numbered(1)), 0);
+    assert_eq!(rt; sent(&mut layer, numbered(1)), Ok(()));
     assert_eq!(rt; layer.held(), 1, "it has nowhere to go");
     Ok(())
 }
@@ -25,13 +25,13 @@ fn a_reserve_above_no_place(rt: HostRuntime) -> Result<(), Fail> {
 fn a_full_reserve_above_a_full_ring(rt: HostRuntime) -> Result<(), Fail> {
     let mut memory = [numbered(1); 2];
     let mut layer = Reserve::new(Fifo::new(&mut memory));
-    assert_eq!(rt; filled(&mut layer), (10, 11));
+    assert_eq!(rt; filled(&mut layer), Err((10, 11)));
     assert_eq!(rt; layer.held(), RESERVE_PLACES);
-    assert_eq!(rt; taken(&mut layer), (1, 0));
+    assert_eq!(rt; taken(&mut layer), Ok(1));
     assert_eq!(rt; layer.held(), 7, "the oldest held report moved down");
-    assert_eq!(rt; sent(&mut layer, numbered(11)), 0);
+    assert_eq!(rt; sent(&mut layer, numbered(11)), Ok(()));
     assert_eq!(rt; layer.held(), 8, "behind those that are held");
-    assert_eq!(rt; sent(&mut layer, numbered(12)), 11);
+    assert_eq!(rt; sent(&mut layer, numbered(12)), Err(11));
     holds(&rt, &mut layer, 2, 10)
 }
 
@@ -39,14 +39,14 @@ fn a_full_reserve_above_a_full_ring(rt: HostRuntime) -> Result<(), Fail> {
 fn a_reserve_that_holds_reports_is_kept(rt: HostRuntime) -> Result<(), Fail> {
     let mut memory = [numbered(1); 2];
     let mut layer = Reserve::new(Fifo::new(&mut memory));
-    assert_eq!(rt; sent(&mut layer, numbered(1)), 0);
-    assert_eq!(rt; sent(&mut layer, numbered(2)), 0);
+    assert_eq!(rt; sent(&mut layer, numbered(1)), Ok(()));
+    assert_eq!(rt; sent(&mut layer, numbered(2)), Ok(()));
     assert_eq!(rt; layer.held(), 0, "the ring has places");
-    assert_eq!(rt; sent(&mut layer, numbered(3)), 0);
+    assert_eq!(rt; sent(&mut layer, numbered(3)), Ok(()));
     let Err(mut layer) = layer.into_below() else {
         return Err(Fail::new("a held report is lost"));
     };
-    assert_eq!(rt; taken(&mut layer), (1, 0));
+    assert_eq!(rt; taken(&mut layer), Ok(1));
     let Ok(mut ring) = layer.into_below() else {
         return Err(Fail::new("the held report did not move down"));
     };

@@ -45,22 +45,21 @@ pub(crate) fn in_order(reports: &[Report], first: u16, count: usize) -> bool {
         .eq(numbers.take(reports.len()))
 }
 
-// The number that a report is refused with, or 0.
-pub(crate) fn sent<L: Link>(link: &mut L, report: Report) -> u8 {
-    link.send(report).map_or_else(Refusal::number, |()| 0)
+// Sends a report, or says the number that it is refused with.
+pub(crate) fn sent<L: Link>(link: &mut L, report: Report) -> Result<(), u8> {
+    link.send(report).map_err(Refusal::number)
 }
 
-// The number of the report that is taken and 0, or 0 and the number that the take is refused with.
-pub(crate) fn taken<L: Link>(link: &mut L) -> (u16, u8) {
-    link.take().map_or_else(|refusal| (0, refusal.number()), |report| (report.number, 0))
+// The number of the report that is taken, or the number that the take is refused with.
+pub(crate) fn taken<L: Link>(link: &mut L) -> Result<u16, u8> {
+    link.take()
+        .map(|report| report.number)
+        .map_err(Refusal::number)
 }
 
-// How many reports of the row went, and the number that the next one was refused with, or 0.
-pub(crate) fn filled<L: Link>(link: &mut L) -> (usize, u8) {
-    send_all(link, &row()).map_or_else(
-        |unsent| (unsent.count, unsent.refusal.number()),
-        |()| (ROW, 0),
-    )
+// Sends the row, or says how many reports of it went, and the number that the next one was refused with.
+pub(crate) fn filled<L: Link>(link: &mut L) -> Result<(), (usize, u8)> {
+    send_all(link, &row()).map_err(|unsent| (unsent.count, unsent.refusal.number()))
 }
 
 // Takes all that waits: `count` reports, numbered from `first` on.
@@ -74,7 +73,7 @@ pub(crate) fn holds<L: Link>(
     assert_eq!(rt; take_all(link, &mut place), count);
     assert!(rt; in_order(&place, first, count), "the order");
     assert!(rt; !link.has_waiting());
-    assert_eq!(rt; taken(link), (0, 13), "a take after the last");
+    assert_eq!(rt; taken(link), Err(13), "a take after the last");
     Ok(())
 }
 
@@ -84,17 +83,17 @@ pub(crate) fn fills_and_empties<L: Link>(
     link: &mut L,
     places: usize,
 ) -> Result<(), Fail> {
-    assert_eq!(rt; taken(link), (0, 13));
+    assert_eq!(rt; taken(link), Err(13));
     assert_eq!(rt; link.has_room(), places > 0);
-    assert_eq!(rt; filled(link), (places, 11));
+    assert_eq!(rt; filled(link), Err((places, 11)));
     assert!(rt; !link.has_room());
     assert_eq!(rt;
         sent(link, lawless()),
-        2,
+        Err(2),
         "a lawless report is refused as such, though no place is free"
     );
     holds(rt, link, 1, places)?;
-    assert_eq!(rt; filled(link), (places, 11), "filled again");
+    assert_eq!(rt; filled(link), Err((places, 11)), "filled again");
     holds(rt, link, 1, places)
 }
 
@@ -105,11 +104,11 @@ pub(crate) fn goes_round<L: Link>(
     places: usize,
     next: u16,
 ) -> Result<(), Fail> {
-    assert_eq!(rt; filled(link), (places, 11));
+    assert_eq!(rt; filled(link), Err((places, 11)));
     for i in 0..5u16 {
-        assert_eq!(rt; taken(link), (i + 1, 0));
-        assert_eq!(rt; sent(link, numbered(next.saturating_add(i))), 0);
-        assert_eq!(rt; sent(link, numbered(1)), 11);
+        assert_eq!(rt; taken(link), Ok(i + 1));
+        assert_eq!(rt; sent(link, numbered(next.saturating_add(i))), Ok(()));
+        assert_eq!(rt; sent(link, numbered(1)), Err(11));
     }
     holds(rt, link, 6, places)
 }

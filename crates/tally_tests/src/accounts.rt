@@ -1,6 +1,6 @@
 // Accounts: growing, switching, closing, repeats, and every way to be refused.
 use account::{AccountRecord, Status, closed_records, read_all, read_one};
-use report::{Address, Elapsed, Report, Standing};
+use report::{Address, Elapsed, Refusal, Report, Standing};
 use std::test::Fail;
 
 fn report(address: u8, number: u16, standing: Standing, elapsed: Elapsed) -> Report {
@@ -25,21 +25,16 @@ fn switched(time: u32, interval: Option<u32>) -> Elapsed {
     Elapsed::Switched { time, interval }
 }
 
-// The number that a report is refused with, or 0.
-fn refused(records: &mut [AccountRecord], report: &Report) -> u8 {
-    read_one(records, report)
-        .err()
-        .map_or(0, |refusal| refusal.number())
+// The number that a report is refused with, if it is.
+fn refused(records: &mut [AccountRecord], report: &Report) -> Option<u8> {
+    read_one(records, report).err().map(Refusal::number)
 }
 
-// The number that the last of some reports is refused with, the others read: 99 where another is.
-fn last_refused(reports: &[Report]) -> u8 {
-    let mut records = closed_records();
-    match read_all(&mut records, reports) {
-        Ok(()) => 0,
-        Err(stop) if stop.index + 1 == reports.len() => stop.refusal.number(),
-        Err(_) => 99,
-    }
+// How many of some reports are read, and the number that the next one is refused with, if one is.
+fn stopped(reports: &[Report]) -> Option<(usize, u8)> {
+    read_all(&mut closed_records(), reports)
+        .err()
+        .map(|stop| (stop.index, stop.refusal.number()))
 }
 
 #[test]
@@ -63,7 +58,7 @@ fn an_account_grows_switches_and_closes(rt: HostRuntime) -> Result<(), Fail> {
     assert_eq!(rt; (one, two), (800, 450));
     assert_eq!(rt;
         refused(&mut records, &active(1, Elapsed::Plain(0))),
-        0,
+        None,
         "the address is free again"
     );
     Ok(())
@@ -72,127 +67,123 @@ fn an_account_grows_switches_and_closes(rt: HostRuntime) -> Result<(), Fail> {
 #[test]
 fn a_broken_rule_is_refused(rt: HostRuntime) {
     assert_eq!(rt;
-        last_refused(&[active(2, Elapsed::Plain(0))]),
-        16,
+        stopped(&[active(2, Elapsed::Plain(0))]),
+        Some((0, 16)),
         "no account is open"
     );
     assert_eq!(rt;
-        last_refused(&[
+        stopped(&[
             active(1, Elapsed::Plain(600)),
             active(3, Elapsed::Plain(700)),
-        ],),
-        16,
+        ]),
+        Some((1, 16)),
         "a number is left out"
     );
     assert_eq!(rt;
-        last_refused(&[
+        stopped(&[
             active(1, Elapsed::Plain(600)),
             active(2, Elapsed::Plain(599)),
-        ],),
-        16,
+        ]),
+        Some((1, 16)),
         "fewer ticks"
     );
     assert_eq!(rt;
-        last_refused(&[
+        stopped(&[
             active(1, switched(5, Some(6))),
             active(2, Elapsed::Plain(7)),
-        ],),
-        16,
+        ]),
+        Some((1, 16)),
         "plain after a switch"
     );
     assert_eq!(rt;
-        last_refused(&[active(1, Elapsed::Plain(6)), active(2, switched(7, None))]),
-        16,
+        stopped(&[active(1, Elapsed::Plain(6)), active(2, switched(7, None))]),
+        Some((1, 16)),
         "a switch before the answer, but ticks"
     );
     assert_eq!(rt;
-        last_refused(&[
+        stopped(&[
             active(1, switched(9, None)),
             active(2, switched(1, Some(8))),
-        ],),
-        16,
+        ]),
+        Some((1, 16)),
         "an interval with fewer ticks"
     );
     let mut lawless = active(1, Elapsed::Plain(0));
     lawless.party = 3;
-    assert_eq!(rt; last_refused(&[lawless]), 2, "outside the frame's rules");
+    assert_eq!(rt;
+        stopped(&[lawless]),
+        Some((0, 2)),
+        "outside the frame's rules"
+    );
 }
 
 // Reads the first report of each address from 1 on, as many as asked for: the first refusal's number.
-fn open_all(records: &mut [AccountRecord], count: u8) -> u8 {
-    (1..=count)
-        .map(|address| {
-            refused(
-                records,
-                &report(address, 1, Standing::Active, Elapsed::Plain(0)),
-            )
-        })
-        .find(|number| *number != 0)
-        .unwrap_or(0)
+fn open_all(records: &mut [AccountRecord], count: u8) -> Option<u8> {
+    (1..=count).find_map(|address| refused(
+        records,
+        &report(address, 1, Standing::Active, Elapsed::Plain(0)),
+    ))
 }
 
 // Reads reports that each switch once more, as many as asked for: the first refusal's number.
-fn switch_all(records: &mut [AccountRecord], count: u16) -> u8 {
-    (1..=count)
-        .map(|number| refused(records, &active(number, switched(1, Some(1)))))
-        .find(|number| *number != 0)
-        .unwrap_or(0)
+fn switch_all(records: &mut [AccountRecord], count: u16) -> Option<u8> {
+    (1..=count).find_map(|number| refused(records, &active(number, switched(1, Some(1)))))
 }
 
 #[test]
 fn the_last_tariff_has_none_after_it(rt: HostRuntime) {
     let mut records = closed_records();
-    assert_eq!(rt; switch_all(&mut records, 15), 0);
+    assert_eq!(rt; switch_all(&mut records, 15), None);
     assert_eq!(rt;
         refused(&mut records, &active(16, switched(1, Some(1)))),
-        16
+        Some(16)
     );
-    assert_eq!(rt; refused(&mut records, &active(16, switched(1, None))), 0);
+    assert_eq!(rt; refused(&mut records, &active(16, switched(1, None))), None);
 }
 
 #[test]
 fn only_so_many_accounts_are_open(rt: HostRuntime) {
     let mut records = closed_records();
-    assert_eq!(rt; open_all(&mut records, 16), 0);
+    assert_eq!(rt; open_all(&mut records, 16), None);
     assert_eq!(rt;
         refused(
             &mut records,
             &report(17, 1, Standing::Active, Elapsed::Plain(0)),
         ),
-        17
+        Some(17)
     );
     assert_eq!(rt;
         refused(
             &mut records,
             &report(17, 1, Standing::Ended, Elapsed::Plain(0)),
         ),
-        17
+        Some(17)
     );
     assert_eq!(rt;
         refused(
             &mut records,
             &report(3, 2, Standing::Ended, Elapsed::Plain(0)),
         ),
-        0
+        None
     );
     assert_eq!(rt;
         refused(
             &mut records,
             &report(17, 1, Standing::Active, Elapsed::Plain(0)),
         ),
-        0
+        None
     );
 }
 
 #[test]
 fn fewer_records_hold_fewer_accounts(rt: HostRuntime) {
     let mut records = [AccountRecord::closed()];
-    assert_eq!(rt; open_all(&mut records, 1), 0);
+    assert_eq!(rt; open_all(&mut records, 1), None);
     assert_eq!(rt;
         refused(
             &mut records,
             &report(2, 1, Standing::Active, Elapsed::Plain(0)),
         ),
-        17
+        Some(17)
     );
 }

@@ -19,15 +19,14 @@ fn sample() -> Report {
     }
 }
 
-// The number and the place of the refusal of some bytes, or 0 and 0 where they are read.
-fn refused(bytes: &[u8]) -> (u8, usize) {
-    read(bytes).err().map_or((0, 0), |refusal| {
-        (refusal.number(), refusal.place().unwrap_or(0))
-    })
+// The number and the place of the refusal of some bytes, if they are refused.
+fn refused(bytes: &[u8]) -> Option<(u8, usize)> {
+    let refusal = read(bytes).err()?;
+    Some((refusal.number(), refusal.place()?))
 }
 
 // A byte of the sample changed: where it is refused.
-fn refused_with(at: usize, byte: u8) -> (u8, usize) {
+fn refused_with(at: usize, byte: u8) -> Option<(u8, usize)> {
     let mut bytes = SAMPLE;
     if at < bytes.len() {
         bytes[at] = byte;
@@ -74,18 +73,18 @@ fn each_field_is_wrong_at_its_place(rt: HostRuntime) {
         (17, 4, 20),
     ];
     for (at, byte, place) in wrong {
-        assert_eq!(rt; refused_with(at, byte), (15, place), "a changed byte");
+        assert_eq!(rt; refused_with(at, byte), Some((15, place)), "a changed byte");
     }
-    assert_eq!(rt; refused_with(4, 2), (0, 0));
+    assert_eq!(rt; refused_with(4, 2), None);
 }
 
 #[test]
 fn cut_frames_are_wrong_at_their_end(rt: HostRuntime) {
     for n in 0..FRAME {
-        assert_eq!(rt; refused(&SAMPLE[0..n]), (15, n));
+        assert_eq!(rt; refused(&SAMPLE[0..n]), Some((15, n)));
     }
     let [first, ..] = SAMPLE;
-    assert_eq!(rt; refused(&[first + 1]), (15, 1));
+    assert_eq!(rt; refused(&[first + 1]), Some((15, 1)));
 }
 
 #[test]

@@ -18,11 +18,9 @@ fn frame_of(number: u16, standing: Standing, elapsed: Elapsed) -> [u8; 24] {
 }
 
 // What is told of a block of whole frames by a tally.
-fn told<'a>(tally: &mut Tally, block: &[u8], page: &'a mut [u8]) -> &'a [u8] {
-    match tally.tell_block(block, page) {
-        Some(end) => &page[0..end],
-        None => b"no room",
-    }
+fn told<'a>(tally: &mut Tally, block: &[u8], page: &'a mut [u8]) -> Option<&'a [u8]> {
+    let end = tally.tell_block(block, page)?;
+    Some(&page[..end])
 }
 
 #[test]
@@ -30,7 +28,7 @@ fn lines_of_an_account(rt: HostRuntime) {
     let mut tally = Tally::new();
     let mut page = [0u8; 800];
     let first = frame_of(1, Standing::Active, Elapsed::Plain(600));
-    assert!(rt; told(&mut tally, &first, &mut page) == b"1.2 #1 open 1:600\n".as_slice());
+    assert!(rt; told(&mut tally, &first, &mut page) == Some(b"1.2 #1 open 1:600\n".as_slice()));
     let second = frame_of(
         2,
         Standing::Released,
@@ -39,10 +37,12 @@ fn lines_of_an_account(rt: HostRuntime) {
             interval: Some(800),
         },
     );
-    assert!(rt; told(&mut tally, &second, &mut page) == b"1.2 #2 closed 1:800 2:450\n".as_slice());
-    assert!(rt; told(&mut tally, &second, &mut page) == b"fault account 16 48\n".as_slice());
+    assert!(rt;
+        told(&mut tally, &second, &mut page) == Some(b"1.2 #2 closed 1:800 2:450\n".as_slice())
+    );
+    assert!(rt; told(&mut tally, &second, &mut page) == Some(b"fault account 16 48\n".as_slice()));
     assert!(rt; tally.has_ended());
-    assert!(rt; told(&mut tally, &first, &mut page).is_empty());
+    assert!(rt; told(&mut tally, &first, &mut page) == Some(b"".as_slice()));
 }
 
 #[test]
@@ -51,7 +51,7 @@ fn a_wrong_frame_ends_the_text(rt: HostRuntime) {
     let mut page = [0u8; 800];
     let mut wrong = frame_of(1, Standing::Active, Elapsed::Plain(600));
     wrong[8] = 9;
-    assert!(rt; told(&mut tally, &wrong, &mut page) == b"fault frame 15 8\n".as_slice());
+    assert!(rt; told(&mut tally, &wrong, &mut page) == Some(b"fault frame 15 8\n".as_slice()));
     assert_eq!(rt; tally.tell_rest(&wrong, &mut page), Some(0));
 }
 
