@@ -8,9 +8,9 @@ use Rattle.reserve.specs.Lies.{AllLawful}
 use Rattle.piles.specs.declared.batches.Unsent.{Unsent}
 
 -- how many of rs were sent: all of them, or those before the one that was refused
-abbrev pub count_sent : List Report → Result (Unit {0}) Unsent → ℕ
-count_sent rs (Ok _) = length rs
-count_sent rs (Err u) = u.count
+abbrev pub sent_count : List Report → Result (Unit {0}) Unsent → ℕ
+sent_count rs (Ok _) = length rs
+sent_count rs (Err u) = u.count
 
 -- what the next one was refused with, if one was
 abbrev pub refusal_of : Result (Unit {0}) Unsent → Option Refusal

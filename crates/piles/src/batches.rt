@@ -2,7 +2,7 @@
 ghost use Rattle.std.specs.Prelude.{◌≡◌, ◌≤◌, min, [], length, take};
 ghost use Rattle.reserve.specs.Lies.{AllLawful};
 ghost use Rattle.piles.specs.Calls.{Calls};
-ghost use Rattle.piles.specs.Batches.{count_sent, refusal_of, SentFirst, Stops, TookFirst, Fills, Empties};
+ghost use Rattle.piles.specs.Batches.{sent_count, refusal_of, SentFirst, Stops, TookFirst, Fills, Empties};
 
 use link::Link;
 use report::{Refusal, Report};
@@ -16,10 +16,10 @@ pub struct Unsent {
 
 // Sends reports in their order until one is refused. So an empty link is filled by lawful reports to its last place.
 pub fn send_all<L: Link>(link: &mut L, reports: &[Report]) -> Result<(), Unsent>
-    ensures sent { SentFirst (L.Link.view link.old) reports.now (count_sent reports.now result) (L.Link.view link.new) }
-    ensures stops { Stops (refusal_of result) (L.Link.view link.new) reports.now (count_sent reports.now result) }
-    ensures calls { Calls (L.Link.view link.old) (take (count_sent reports.now result) reports.now) [] (L.Link.view link.new) }
-    ensures fills { (L.Link.view link.old).waiting ≡ [] → AllLawful reports.now → Fills (L.Link.view link.old).capacity reports.now (count_sent reports.now result) (refusal_of result) (L.Link.view link.new) }
+    ensures sent { SentFirst (L.Link.view link.old) reports.now (sent_count reports.now result) (L.Link.view link.new) }
+    ensures stops { Stops (refusal_of result) (L.Link.view link.new) reports.now (sent_count reports.now result) }
+    ensures calls { Calls (L.Link.view link.old) (take (sent_count reports.now result) reports.now) [] (L.Link.view link.new) }
+    ensures fills { (L.Link.view link.old).waiting ≡ [] → AllLawful reports.now → Fills (L.Link.view link.old).capacity reports.now (sent_count reports.now result) (refusal_of result) (L.Link.view link.new) }
 {
     for (count, report) in reports.iter().enumerate() {
         link.send(*report)

@@ -2,7 +2,7 @@
 ghost use Rattle.std.specs.Prelude.{◌≡◌, ◌+◌, ◌*◌, [], length};
 ghost use Rattle.frame_ring.specs.Places.{places_in};
 ghost use Rattle.reserve.specs.Lies.{reserve_places, AllLawful};
-ghost use Rattle.piles.specs.Batches.{count_sent, refusal_of, SentFirst, Stops, empty, Fills};
+ghost use Rattle.piles.specs.Batches.{sent_count, refusal_of, SentFirst, Stops, empty, Fills};
 ghost use Rattle.piles.specs.Piles.{pile_view, EachPileStands};
 ghost use Rattle.piles.specs.Piles.Kind.{records, frames, above};
 
@@ -16,9 +16,9 @@ use ring::Fifo;
 // Sends reports to a link in which nothing waits.
 fn filled<L: Link>(mut link: L, reports: &[Report]) -> (L, Result<(), Unsent>)
     requires { (L.Link.view link).waiting ≡ [] }
-    ensures sent { SentFirst (empty (L.Link.view link).capacity) reports.now (count_sent reports.now result.1) (L.Link.view result.0) }
-    ensures stops { Stops (refusal_of result.1) (L.Link.view result.0) reports.now (count_sent reports.now result.1) }
-    ensures fills { AllLawful reports.now → Fills (L.Link.view link).capacity reports.now (count_sent reports.now result.1) (refusal_of result.1) (L.Link.view result.0) }
+    ensures sent { SentFirst (empty (L.Link.view link).capacity) reports.now (sent_count reports.now result.1) (L.Link.view result.0) }
+    ensures stops { Stops (refusal_of result.1) (L.Link.view result.0) reports.now (sent_count reports.now result.1) }
+    ensures fills { AllLawful reports.now → Fills (L.Link.view link).capacity reports.now (sent_count reports.now result.1) (refusal_of result.1) (L.Link.view result.0) }
 {
     let sent = send_all(&mut link, reports);
     (link, sent)
@@ -29,9 +29,9 @@ pub fn fill_records<'a>(
     memory: &'a mut [Report],
     reports: &[Report],
 ) -> (Reserve<Reserve<Fifo<'a, Report>>>, Result<(), Unsent>)
-    ensures sent { SentFirst (empty (length memory.old + 2 * reserve_places)) reports.now (count_sent reports.now result.1) (pile_view (above (above records)) result.0) }
-    ensures stops { Stops (refusal_of result.1) (pile_view (above (above records)) result.0) reports.now (count_sent reports.now result.1) }
-    ensures fills { AllLawful reports.now → Fills (length memory.old + 2 * reserve_places) reports.now (count_sent reports.now result.1) (refusal_of result.1) (pile_view (above (above records)) result.0) }
+    ensures sent { SentFirst (empty (length memory.old + 2 * reserve_places)) reports.now (sent_count reports.now result.1) (pile_view (above (above records)) result.0) }
+    ensures stops { Stops (refusal_of result.1) (pile_view (above (above records)) result.0) reports.now (sent_count reports.now result.1) }
+    ensures fills { AllLawful reports.now → Fills (length memory.old + 2 * reserve_places) reports.now (sent_count reports.now result.1) (refusal_of result.1) (pile_view (above (above records)) result.0) }
     ensures every { EachPileStands }
 {
     filled(Reserve::new(Reserve::new(Fifo::new(memory))), reports)
@@ -42,9 +42,9 @@ pub fn fill_frames<'a>(
     bytes: &'a mut [u8],
     reports: &[Report],
 ) -> (Reserve<FrameRing<'a>>, Result<(), Unsent>)
-    ensures sent { SentFirst (empty (places_in bytes.old + reserve_places)) reports.now (count_sent reports.now result.1) (pile_view (above frames) result.0) }
-    ensures stops { Stops (refusal_of result.1) (pile_view (above frames) result.0) reports.now (count_sent reports.now result.1) }
-    ensures fills { AllLawful reports.now → Fills (places_in bytes.old + reserve_places) reports.now (count_sent reports.now result.1) (refusal_of result.1) (pile_view (above frames) result.0) }
+    ensures sent { SentFirst (empty (places_in bytes.old + reserve_places)) reports.now (sent_count reports.now result.1) (pile_view (above frames) result.0) }
+    ensures stops { Stops (refusal_of result.1) (pile_view (above frames) result.0) reports.now (sent_count reports.now result.1) }
+    ensures fills { AllLawful reports.now → Fills (places_in bytes.old + reserve_places) reports.now (sent_count reports.now result.1) (refusal_of result.1) (pile_view (above frames) result.0) }
     ensures every { EachPileStands }
 {
     filled(Reserve::new(FrameRing::new(bytes)), reports)
