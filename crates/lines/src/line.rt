@@ -7,7 +7,6 @@ ghost use Rattle.lines.specs.Page.{room, Adds};
 
 use crate::page::{NoRoom, Page};
 use account::{Reading, Status};
-use itoa::Buffer;
 use report::limits::TARIFFS;
 use report::{Address, Refusal};
 
@@ -15,7 +14,7 @@ use report::{Address, Refusal};
 pub const LINE: usize = 800;
 
 // What found a fault.
-#[derive(Clone, Copy)]
+#[derive(Clone, Copy, PartialEq, Eq, Debug)]
 pub enum Layer {
     Frame,
     Account,
@@ -138,7 +137,7 @@ impl Page<'_> {
         self.put_byte(b' ');
         self.put_decimal(refusal.number() as u32);
         self.put_byte(b' ');
-        self.put_text(Buffer::new().format(place).as_bytes());
+        self.put_long_decimal(place);
         self.put_byte(b'\n');
         Ok(())
     }
