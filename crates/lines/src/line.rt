@@ -63,11 +63,11 @@ impl Page<'_> {
         ensures adds { Adds self.old (head_text address number) self.new }
         ensures few { length (head_text address number) ≤ head_size }
     {
-        self.put_decimal(address.kind as u32);
+        self.put_decimal(u32::from(address.kind));
         self.put_byte(b'.');
-        self.put_decimal(address.number as u32);
+        self.put_decimal(u32::from(address.number));
         self.put_text(b" #");
-        self.put_decimal(number as u32);
+        self.put_decimal(u32::from(number));
     }
 
     #[inline(always)]
@@ -107,7 +107,7 @@ impl Page<'_> {
         self.put_head(account.address, number);
         self.put_byte(b' ');
         self.put_text(name_of(reading.status));
-        self.put_tariffs((account.tariff as usize).min(TARIFFS), &account.ticks);
+        self.put_tariffs(usize::from(account.tariff).min(TARIFFS), &account.ticks);
         self.put_byte(b'\n');
     }
 
@@ -135,7 +135,7 @@ impl Page<'_> {
         self.put_text(b"fault ");
         self.put_text(layer.name());
         self.put_byte(b' ');
-        self.put_decimal(refusal.number() as u32);
+        self.put_decimal(u32::from(refusal.number()));
         self.put_byte(b' ');
         self.put_long_decimal(place);
         self.put_byte(b'\n');
