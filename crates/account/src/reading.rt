@@ -50,7 +50,7 @@ fn keep(records: &mut [AccountRecord], at: usize, reading: &Reading)
 {
     match reading.status {
         Status::Open => records[at] = reading.account,
-        Status::Closed => records[at] = AccountRecord::closed(),
+        Status::Closed => records[at] = AccountRecord::CLOSED,
         Status::Repeat => {}
     }
 }
