@@ -49,6 +49,7 @@ impl AccountRecord {
         ticks: [0; TARIFFS],
     };
 
+    // The constant with its promise, since a constant has no clauses.
     pub fn closed() -> AccountRecord
         ensures { result ≡ closed_record }
     {
