@@ -27,9 +27,8 @@ impl OpenAccount {
         OpenAccount {
             record: AccountRecord {
                 address,
-                last: 0,
                 tariff: 1,
-                ticks: [0; TARIFFS],
+                ..AccountRecord::CLOSED
             },
         }
     }

@@ -11,7 +11,8 @@ use crate::record::{AccountRecord, Reading, Status, Stop};
 use report::limits::OPEN_ACCOUNTS;
 use report::{Address, Refusal, Report};
 
-// The place of the first record, of those that count, that is the open account of an address.
+// The place of the first record, of those that count, that is the open account of an address. This and `place_of_closed` differ in
+// the test alone: a generic one would carry the test's contract, and each caller would have to prove what its test computes.
 fn place_of_open(records: &[AccountRecord], address: Address) -> Option<usize>
     ensures is { result ≡ position (open_for address) (counting records.now) }
     ensures few { IfSome result (λ k. k < length records.now) }
@@ -50,7 +51,7 @@ fn keep(records: &mut [AccountRecord], at: usize, reading: &Reading)
 {
     match reading.status {
         Status::Open => records[at] = reading.account,
-        Status::Closed => records[at] = AccountRecord::closed(),
+        Status::Closed => records[at] = AccountRecord::CLOSED,
         Status::Repeat => {}
     }
 }

@@ -42,15 +42,18 @@ pub struct Stop {
 
 impl AccountRecord {
     // A record that is closed.
+    pub const CLOSED: AccountRecord = AccountRecord {
+        address: Address { kind: 0, number: 0 },
+        last: 0,
+        tariff: 0,
+        ticks: [0; TARIFFS],
+    };
+
+    // The constant with its promise, since a constant has no clauses.
     pub fn closed() -> AccountRecord
         ensures { result ≡ closed_record }
     {
-        AccountRecord {
-            address: Address { kind: 0, number: 0 },
-            last: 0,
-            tariff: 0,
-            ticks: [0; TARIFFS],
-        }
+        AccountRecord::CLOSED
     }
 
     // Whether an account is open in the record.
@@ -65,5 +68,5 @@ impl AccountRecord {
 pub fn closed_records() -> [AccountRecord; OPEN_ACCOUNTS]
     ensures { result ≡ replicate open_accounts closed_record }
 {
-    [AccountRecord::closed(); OPEN_ACCOUNTS]
+    [AccountRecord::CLOSED; OPEN_ACCOUNTS]
 }

@@ -16,7 +16,7 @@ use Rattle.frame.specs.Frame.{frame_size, frame_kind, frame, first_fault, fields
 use Rattle.frame.proofs.Back.{frames_read}
 use Rattle.frame.proofs.FlagBits.{right_flags_tell}
 use Rattle.frame.proofs.Numbers.{le16_bytes, le32_bytes}
-use Rattle.frame.proofs.Places.{spelled}
+use Rattle.frame.proofs.Places.{Placed, rest, all_placed, spelled}
 
 -- what stands in bytes without a fault
 record Sound (b : List ℕ) : Type 0 where
@@ -136,9 +136,9 @@ inside : (b : List ℕ) (c : Cause) → first_fault b ≡ Some c → wrong_at (l
 inside b c e =
     elim (long_or_cut (leb frame_size (length b)) _ c e) [ inl t ↦ near (length b) c (leb-true _ _ t) | inr q ↦ omega (arith, ap (wrong_at (length b)) q) ]
 
--- bytes with a fault that were refused
-pub is_refused : (b : List ℕ) (c : Cause) (e : Refusal) → first_fault b ≡ Some c → e ≡ WrongFrame (record { cause = c; place = wrong_at (length b) c }) → FrameRefused b e
-is_refused b c e first refused = record { cause = c; first = first; refused = refused; inside = inside b c first }
+-- bytes with a fault that were refused, by where the fields stand after the first four bytes
+pub is_refused : (b : List ℕ) (c : Cause) (e : Refusal) → (Placed b (rest b) → first_fault b ≡ Some c) → e ≡ WrongFrame (record { cause = c; place = wrong_at (length b) c }) → FrameRefused b e
+is_refused b c e faulty refused = let first = faulty (all_placed b) in record { cause = c; first = first; refused = refused; inside = inside b c first }
 
 -- bytes without a fault mean a lawful report and begin with its frame, and with that of no other lawful report
 pub reads_are_frames : ReadsAreFrames

@@ -4,7 +4,8 @@ ghost use Rattle.frame.specs.Flags.{has, flags_right, interval_right, standing_b
 
 use report::{Elapsed, Standing};
 
-// The flag bits, from the lowest.
+// The flag bits, from the lowest. No `From` between a byte and what it tells: it holds the standing and the form of the elapsed time
+// at once, and the numbers of the elapsed time stand elsewhere in the frame.
 const ACTIVE: u32 = 0;
 
 const SWITCH_FORM: u32 = 1;
@@ -69,9 +70,9 @@ pub(crate) fn standing_bits(standing: Standing) -> u8
     ensures { result ≡ standing_bits standing }
 {
     match standing {
-        Standing::Active => 1,
+        Standing::Active => 1 << ACTIVE,
         Standing::Ended => 0,
-        Standing::Released => 8,
+        Standing::Released => 1 << RELEASED,
     }
 }
 
@@ -81,13 +82,10 @@ pub(crate) fn elapsed_bits(elapsed: Elapsed) -> u8
 {
     match elapsed {
         Elapsed::Plain(_) => 0,
+        Elapsed::Switched { interval: None, .. } => 1 << SWITCH_FORM,
         Elapsed::Switched {
-            time: _,
-            interval: None,
-        } => 2,
-        Elapsed::Switched {
-            time: _,
             interval: Some(_),
-        } => 6,
+            ..
+        } => 1 << SWITCH_FORM | 1 << INTERVAL_PRESENT,
     }
 }

@@ -6,7 +6,7 @@ use crate::flags::{elapsed_bits, standing_bits};
 use crate::layout::{FRAME, LENGTH, REPORT_KIND};
 use report::{Refusal, Report};
 
-// The 24 bytes of the report's frame.
+// The 24 bytes of the report's frame. No `From`: of a report that is not lawful, which `write` refuses, they would not read back.
 fn to_frame(report: Report) -> [u8; FRAME]
     ensures { result ≡ frame report }
 {

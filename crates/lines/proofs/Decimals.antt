@@ -3,7 +3,7 @@ use Rattle.std.proofs.Common.{◌≡◌, ℕ, zero, suc, ◌+◌, ◌-◌, ◌*�
 use Rattle.std.proofs.lemmas.Fmt.{decimal_digit, decimal_step, length-decimal-le}
 use lib.Ieee.Fits.{and_l, and_r}
 use Rattle.lines.specs.declared.decimal.TheConstants.{PAIRS}
-use Rattle.lines.specs.Digits.{two_digits, four_digits, eight_digits, decimal_size}
+use Rattle.lines.specs.Digits.{two_digits, four_digits, eight_digits, decimal_size, long_size}
 
 abbrev are_pairs : ℕ → Bool
 are_pairs zero = true
@@ -48,6 +48,9 @@ decimal-eight n lo hi =
 pub length-decimal : (n : ℕ) → n < 2 ^ 32 → length (decimal n) ≤ decimal_size
 length-decimal n fits = length-decimal-le 10 n (omega arith) (omega arith) (omega arith)
 
+pub length-long : (n : ℕ) → n < 2 ^ 64 → length (decimal n) ≤ long_size
+length-long n fits = length-decimal-le 20 n (omega arith) (omega arith) (omega arith)
+
 pub ruleset lengths = (length-decimal, length-append)
 
-pub ruleset decimals = (length-decimal, PAIRS_at, decimal_digit, decimal_two, decimal-two, decimal-four, decimal-eight)
+pub ruleset decimals = (length-decimal, length-long, PAIRS_at, decimal_digit, decimal_two, decimal-two, decimal-four, decimal-eight)

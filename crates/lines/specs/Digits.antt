@@ -16,3 +16,7 @@ eight_digits n = four_digits (n / 10000) ++ four_digits (n % 10000)
 -- no number of 32 bits has more digits
 abbrev pub decimal_size : ℕ
 decimal_size = 10
+
+-- no number of 64 bits has more digits
+abbrev pub long_size : ℕ
+long_size = 20

@@ -7,7 +7,6 @@ ghost use Rattle.lines.specs.Page.{room, Adds};
 
 use crate::page::{NoRoom, Page};
 use account::{Reading, Status};
-use itoa::Buffer;
 use report::limits::TARIFFS;
 use report::{Address, Refusal};
 
@@ -15,7 +14,7 @@ use report::{Address, Refusal};
 pub const LINE: usize = 800;
 
 // What found a fault.
-#[derive(Clone, Copy)]
+#[derive(Clone, Copy, PartialEq, Eq, Debug)]
 pub enum Layer {
     Frame,
     Account,
@@ -64,11 +63,11 @@ impl Page<'_> {
         ensures adds { Adds self.old (head_text address number) self.new }
         ensures few { length (head_text address number) ≤ head_size }
     {
-        self.put_decimal(address.kind as u32);
+        self.put_decimal(u32::from(address.kind));
         self.put_byte(b'.');
-        self.put_decimal(address.number as u32);
+        self.put_decimal(u32::from(address.number));
         self.put_text(b" #");
-        self.put_decimal(number as u32);
+        self.put_decimal(u32::from(number));
     }
 
     #[inline(always)]
@@ -108,7 +107,7 @@ impl Page<'_> {
         self.put_head(account.address, number);
         self.put_byte(b' ');
         self.put_text(name_of(reading.status));
-        self.put_tariffs((account.tariff as usize).min(TARIFFS), &account.ticks);
+        self.put_tariffs(usize::from(account.tariff).min(TARIFFS), &account.ticks);
         self.put_byte(b'\n');
     }
 
@@ -136,9 +135,9 @@ impl Page<'_> {
         self.put_text(b"fault ");
         self.put_text(layer.name());
         self.put_byte(b' ');
-        self.put_decimal(refusal.number() as u32);
+        self.put_decimal(u32::from(refusal.number()));
         self.put_byte(b' ');
-        self.put_text(Buffer::new().format(place).as_bytes());
+        self.put_long_decimal(place);
         self.put_byte(b'\n');
         Ok(())
     }

@@ -1,5 +1,5 @@
 -- What is told of a report and of a frame. Assumes nothing.
-use Rattle.std.proofs.Common.{◌≡◌, ℕ, ◌+◌, ◌-◌, ◌^◌, min, true, List, length, Ok, Err, Option, unwrap_or, sym, refl, ap, ◌∙◌, subst}
+use Rattle.std.proofs.Common.{◌≡◌, ℕ, ◌+◌, ◌-◌, ◌^◌, min, true, List, length, Some, Ok, Err, Option, unwrap_or, sym, refl, ap, ◌∙◌, subst}
 use Rattle.report.specs.Refusals.{returned, wrong_at}
 use Rattle.report.specs.declared.report.Report.{Report}
 use Rattle.report.specs.declared.refusal.Cause.{Cause}
@@ -54,5 +54,5 @@ module _ (t : Tally) (p : Progress) (b : List ℕ) (old new : Page) where
       })
 
 -- the place that a wrong frame's refusal carries
-pub wrong_place : (b : List ℕ) (e : Refusal) (refused : FrameRefused b e) (o : Option ℕ) (n : ℕ) → o ≡ (returned e).place → n ≡ unwrap_or o 0 → n ≡ wrong_at (length b) refused.cause
-wrong_place b e refused o n is value = value ∙ ap (λ x. unwrap_or x 0) (is ∙ ap (λ x. (returned x).place) refused.refused)
+pub wrong_place : (b : List ℕ) (e : Refusal) (refused : FrameRefused b e) (o : Option ℕ) (n : ℕ) → o ≡ (returned e).place → o ≡ Some n → n ≡ wrong_at (length b) refused.cause
+wrong_place b e refused o n is value = ap (λ x. unwrap_or x 0) (sym value ∙ is ∙ ap (λ x. (returned x).place) refused.refused)

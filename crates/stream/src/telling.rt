@@ -15,6 +15,7 @@ use lines::{LINE, Layer, Page};
 use report::Report;
 
 impl Tally {
+    // Apart from `new`, whose proof starts from what these values are.
     fn blank() -> Tally
         ensures { Blank result }
     {
@@ -65,7 +66,7 @@ impl Tally {
             Ok((report, _)) => self.tell_report(&report, page),
             Err(refusal) => {
                 self.ended = true;
-                let wrong = refusal.place().unwrap_or(0) as u64;
+                let wrong = refusal.place().unwrap() as u64;
                 let place = self.place.saturating_add(wrong);
                 page.put_fault(Layer::Frame, refusal, place).unwrap();
             }
@@ -124,7 +125,7 @@ fn whole_frames(bytes: usize) -> usize
 }
 
 // Moves the bytes after the whole frames among the first `filled` of a buffer to its front, and
-// returns how many they are. No more bytes are filled than the buffer has.
+// returns how many they are. No more bytes are filled than the buffer has. The program lends the buffer and keeps `filled`.
 pub fn keep_rest(buffer: &mut [u8], filled: usize) -> usize
     ensures { Keeps buffer.old filled result buffer.new }
 {

@@ -18,7 +18,7 @@ const BLOCK: usize = FRAMES * FRAME;
 const PAGE: usize = FRAMES * LINE;
 
 // An input that is told of on an output. The first `left` bytes of the block are left over from
-// what was read.
+// what was read: the struct keeps both, and memory is made once, where a Vec that grows and shrinks would be filled anew.
 #[derive(Drop)]
 struct Session<R, W> {
     input: R,

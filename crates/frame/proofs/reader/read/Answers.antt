@@ -8,47 +8,39 @@ use Rattle.frame.proofs.reader.read.Goals as goal
 
 pub returns-in_default : goal.returns-in_default
 returns-in_default c =
-    is_refused c.args.bytes.now Cut _ (grind (arith, nat_tests)) c.cut.ensures
+    is_refused c.args.bytes.now Cut _ (λ p. grind (arith, nat_tests)) c.cut.ensures
 
 pub returns-in_default-address : goal.returns-in_default-address
 returns-in_default-address c =
-    let p = all_placed c.args.bytes.now in
-    is_refused c.args.bytes.now AddressNumber _ (grind (arith, nat_tests)) c.wrong-in_default-address.ensures
+    is_refused c.args.bytes.now AddressNumber _ (λ p. grind (arith, nat_tests)) c.wrong-in_default-address.ensures
 
 pub returns-in_default-from_le_bytes-3 : goal.returns-in_default-from_le_bytes-3
 returns-in_default-from_le_bytes-3 c =
-    let p = all_placed c.args.bytes.now in
-    is_refused c.args.bytes.now ReportNumber _ (grind (arith, nat_tests)) c.wrong-in_default-from_le_bytes-3.ensures
+    is_refused c.args.bytes.now ReportNumber _ (λ p. grind (arith, nat_tests)) c.wrong-in_default-from_le_bytes-3.ensures
 
 pub returns-in_default-flags_right : goal.returns-in_default-flags_right
 returns-in_default-flags_right c =
-    let p = all_placed c.args.bytes.now in
-    is_refused c.args.bytes.now Flags _ (grind (arith, nat_tests, c.in_default-flags_right.ensures)) c.wrong-in_default-flags_right.ensures
+    is_refused c.args.bytes.now Flags _ (λ p. grind (arith, nat_tests, c.in_default-flags_right.ensures)) c.wrong-in_default-flags_right.ensures
 
 pub returns-in_default-party : goal.returns-in_default-party
 returns-in_default-party c =
-    let p = all_placed c.args.bytes.now in
-    is_refused c.args.bytes.now Party _ (grind (arith, nat_tests, c.in-true.ensures)) c.wrong-in_default-party.ensures
+    is_refused c.args.bytes.now Party _ (λ p. grind (arith, nat_tests, c.in-true.ensures)) c.wrong-in_default-party.ensures
 
 pub returns-in_default-from_le_bytes-4 : goal.returns-in_default-from_le_bytes-4
 returns-in_default-from_le_bytes-4 c =
-    let p = all_placed c.args.bytes.now in
-    is_refused c.args.bytes.now Zero _ (grind (arith, nat_tests, c.in-true.ensures)) c.wrong-in_default-from_le_bytes-4.ensures
+    is_refused c.args.bytes.now Zero _ (λ p. grind (arith, nat_tests, c.in-true.ensures)) c.wrong-in_default-from_le_bytes-4.ensures
 
 pub returns-in_default-from_le_bytes-5 : goal.returns-in_default-from_le_bytes-5
 returns-in_default-from_le_bytes-5 c =
-    let p = all_placed c.args.bytes.now in
-    is_refused c.args.bytes.now Tick _ (grind (arith, nat_tests, c.in-true.ensures)) c.wrong-in_default-from_le_bytes-5.ensures
+    is_refused c.args.bytes.now Tick _ (λ p. grind (arith, nat_tests, c.in-true.ensures)) c.wrong-in_default-from_le_bytes-5.ensures
 
 pub returns-in_default-interval_right : goal.returns-in_default-interval_right
 returns-in_default-interval_right c =
-    let p = all_placed c.args.bytes.now in
-    is_refused c.args.bytes.now Interval _ (grind (arith, nat_tests, c.in-true.ensures, c.in_default-interval_right.ensures)) c.wrong-in_default-interval_right.ensures
+    is_refused c.args.bytes.now Interval _ (λ p. grind (arith, nat_tests, c.in-true.ensures, c.in_default-interval_right.ensures)) c.wrong-in_default-interval_right.ensures
 
 pub returns-in_default-2 : goal.returns-in_default-2
 returns-in_default-2 c =
-    let p = all_placed c.args.bytes.now in
-    is_refused c.args.bytes.now Sum _ (grind (arith, nat_tests, c.in-true.ensures, c.in-true-interval_right.ensures)) c.wrong-in_default-2.ensures
+    is_refused c.args.bytes.now Sum _ (λ p. grind (arith, nat_tests, c.in-true.ensures, c.in-true-interval_right.ensures)) c.wrong-in_default-2.ensures
 
 pub returns : goal.returns
 returns c =

@@ -8,5 +8,5 @@ returns-in-Ok-clause-told c p stands = told_frame c.args.self.now p c.args.frame
 pub returns-in-Err-clause-told : goal.returns-in-Err-clause-told
 returns-in-Err-clause-told c p stands =
     let refused = c.in-Err.ensures in
-    let wrong = wrong_place c.args.frame.now c.in-Err.refusal refused c.place.result c.unwrap_or-wrong.result c.place.ensures c.unwrap_or-wrong.ensures in
+    let wrong = wrong_place c.args.frame.now c.in-Err.refusal refused c.place.result c.unwrap-wrong.result c.place.ensures c.unwrap-wrong.ensures in
     told_fault c.args.self.now p c.args.frame.now c.args.page.now c.put_fault.new.self c.in-Err.refusal c.saturating_add-place.result stands refused (c.saturating_add-place.ensures ∙ ap (λ n. min (c.args.self.now.place + n) (2 ^ 64 - 1)) wrong) (rw c.unwrap.ensures at c.put_fault.ensures).2
