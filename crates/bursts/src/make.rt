@@ -55,6 +55,8 @@ impl From<BurstList> for BurstNumbers {
 }
 
 impl BurstList {
+    // `new` and `numbers` stay beside `TryFrom` and `From`: they are the public names that hosts call.
+
     // The list of these numbers, refused where one is out of its range.
     pub fn new(numbers: BurstNumbers) -> Result<BurstList, Refusal>
         ensures { Made numbers result }

@@ -114,7 +114,7 @@ impl<L: Link> Engine<L> {
         }
     }
 
-    // Leaves the connection waiting for its answer.
+    // Leaves the connection waiting for its answer. This and `bar` are public calls of one form, each with its own contract.
     pub fn continue_call(
         &mut self,
         tick: u32,
@@ -170,7 +170,8 @@ impl<L: Link> Engine<L> {
         self.operate(tick, address, &Operation::Advise(*advice), order)
     }
 
-    // Makes a waiting connection answered.
+    // Makes a waiting connection answered. This, `disconnect` and `repeat` are public calls of one form, each with its own
+    // contract.
     pub fn answer(&mut self, tick: u32, address: Address, order: &mut Order) -> Result<(), Refusal>
         ensures does { Does (On tick address Answer) (state L.Link.view self.old) (replied result order.new) (state L.Link.view self.new) }
         ensures leaves { Leaves result self.old self.new order.old order.new }

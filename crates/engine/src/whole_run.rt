@@ -25,7 +25,7 @@ const BLANK: Order = Order {
 };
 
 // The reply of a call that writes an order.
-fn told(answer: Result<(), Refusal>, order: Order) -> Reply
+fn reply_of(answer: Result<(), Refusal>, order: Order) -> Reply
     ensures { result ≡ replied answer order }
 {
     answer.map_or_else(Reply::Refused, |()| Reply::Done(order))
@@ -45,11 +45,11 @@ impl<L: Link> Engine<L> {
                 operation,
             } => {
                 let answer = self.operate(*tick, *address, operation, &mut order);
-                told(answer, order)
+                reply_of(answer, order)
             }
             Call::Fire(tick) => {
                 let answer = self.fire(*tick, &mut order);
-                told(answer, order)
+                reply_of(answer, order)
             }
             Call::Take => self.take().map_or_else(Reply::Refused, Reply::Took),
         }

@@ -66,7 +66,7 @@ pub enum Refusal {
 }
 
 impl Refusal {
-    // The number that is returned for the refusal.
+    // The number that is returned for the refusal. A match, and no discriminants: a wrong frame carries its fault.
     pub fn number(self) -> u8
         ensures { result ≡ (returned self).number }
     {

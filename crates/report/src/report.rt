@@ -5,6 +5,7 @@ ghost use Rattle.report.specs.Lawful.{lawful_address, same, time_of, interval_of
 use crate::limits::{ADDRESS_KINDS, ADDRESS_NUMBERS, LAST_TICK, PARTIES, REPORT_NUMBERS};
 
 // A kind (1 a leg, 2 a temporary or SRF connection) and a number from 1 to 127.
+// `kind` is no enum: the rules refuse one out of its range with a number of its own, so an address has to be able to hold it.
 #[derive(Clone, Copy, PartialEq, Eq, PartialOrd, Ord, Debug)]
 pub struct Address {
     pub kind: u8,
@@ -29,6 +30,7 @@ pub enum Standing {
 
 // One report of a connection: its number in the connection, the party of the newest instruction,
 // the tick it is as of, whether the connection goes on, and the elapsed time.
+// `party` is no enum: the rules refuse one out of its range with a number of its own, so a report has to be able to hold it.
 #[derive(Clone, Copy, PartialEq, Eq, Debug)]
 pub struct Report {
     pub address: Address,
@@ -47,7 +49,7 @@ impl Address {
         (1..=ADDRESS_KINDS).contains(&self.kind) && (1..=ADDRESS_NUMBERS).contains(&self.number)
     }
 
-    // Whether both are one address.
+    // Whether both are one address. It stays beside `==`, which other code uses: it is public, and its contract names `same`.
     pub fn is(self, other: Address) -> bool
         ensures { result ≡ same self other }
     {

@@ -5,6 +5,7 @@ use report::{Address, Refusal, Report};
 
 // What the controller grants: the period's longest time in ticks, whether the connection is released at its end, the party
 // that the reports speak of, the seconds to a tariff switch, and the tones that warn of the period's end.
+// `party` is no enum: the rules refuse one out of its range with a number, so an instruction has to be able to hold it.
 #[derive(Clone, Copy, PartialEq, Eq, Debug)]
 pub struct Instruction {
     pub maximum: u32,
@@ -61,7 +62,7 @@ pub enum Call {
 }
 
 // What the host is to do: note that the connection ended, send an e-value set, sound a burst list, or nothing.
-// `Nothing` is a case, since with an `Option` each match on an order would have two levels.
+// `Nothing` is a case: the rules name four orders, and it is one of them.
 #[derive(Clone, Copy, PartialEq, Eq, Debug)]
 pub enum OrderKind {
     Ended,
@@ -78,7 +79,7 @@ pub struct Order {
 }
 
 // The answer to a call: a refusal, an order, or a report that was taken.
-// `Refused` is a case, since with a `Result` each match on a reply would have two levels.
+// `Refused` is one of the three that the definitions name: a `Result` around the other two would be taken apart twice, no plainer.
 #[derive(Clone, Copy, PartialEq, Eq, Debug)]
 pub enum Reply {
     Refused(Refusal),

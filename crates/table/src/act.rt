@@ -11,7 +11,7 @@ use crate::changes::operate;
 use crate::firings::fire_timer;
 use crate::orders::{order_at, order_by};
 use crate::place::{Outcome, Place};
-use crate::ranges::is_in_range;
+use crate::ranges::operation_fits;
 use crate::refusals::{admit_at, refuse_if};
 use crate::reports::{report_at, report_by};
 use crate::table::Table;
@@ -30,7 +30,7 @@ impl Table {
         ensures { tick_of result ≡ admitted tick (first (heads tick address (fits operation.now) (core_of self.now))) }
     {
         let now = self.timely(tick)?;
-        let in_range = address.is_lawful() && is_in_range(operation);
+        let in_range = address.is_lawful() && operation_fits(operation);
         refuse_if(!in_range, Refusal::OutOfRange)?;
         refuse_if(self.earliest(tick).is_some(), Refusal::ItemDue)?;
         Ok(now)

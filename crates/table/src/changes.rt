@@ -158,21 +158,14 @@ pub(crate) fn operate(
     requires admitted { first (operation_rows true operation.now (within (option_copied place)) 0) ≡ None }
     ensures { result ≡ by_operation operation.now tick.at (within (option_copied place.entry)) }
 {
-    let Some(place) = place else {
-        return match operation {
-            Operation::SetUp => Some(set_up()),
-            _ => None,
-        };
-    };
-    let c = &place.connection;
-    match operation {
-        Operation::SetUp => Some(set_up()),
-        Operation::Continue => Some(go_on(c)),
-        Operation::Instruct(i) => Some(instruct(tick, i, place)),
-        Operation::Advise(v) => Some(advise(tick, v, c)),
-        Operation::Answer => Some(answer(tick, place)),
-        Operation::Confirm(_) => Some(confirm(c)),
-        Operation::Repeat => Some(*c),
-        Operation::Bar | Operation::Disconnect => None,
+    match (operation, place) {
+        (Operation::SetUp, _) => Some(set_up()),
+        (_, None) | (Operation::Bar | Operation::Disconnect, _) => None,
+        (Operation::Continue, Some(p)) => Some(go_on(&p.connection)),
+        (Operation::Instruct(i), Some(p)) => Some(instruct(tick, i, p)),
+        (Operation::Advise(v), Some(p)) => Some(advise(tick, v, &p.connection)),
+        (Operation::Answer, Some(p)) => Some(answer(tick, p)),
+        (Operation::Confirm(_), Some(p)) => Some(confirm(&p.connection)),
+        (Operation::Repeat, Some(p)) => Some(p.connection),
     }
 }

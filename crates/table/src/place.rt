@@ -5,11 +5,11 @@ ghost use Rattle.rules.specs.Sound.{sound};
 use report::{Address, Report};
 use rules::{Connection, Order};
 
-// A connection at its address. Its numbers are within their types.
+// A connection at its address. Its numbers are within their types: whoever builds one proves so, and only this crate can.
 #[derive(Clone, Copy, PartialEq, Eq, Debug)]
 pub struct Place {
-    pub address: Address,
-    pub connection: Connection,
+    pub(crate) address: Address,
+    pub(crate) connection: Connection,
     ghost bounded: { sound connection ≡ true },
 }
 

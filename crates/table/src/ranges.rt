@@ -17,21 +17,21 @@ pub(crate) fn clamp_wait(wait: u32) -> u32
 }
 
 // A tariff switch comes within a day, if one is asked.
-fn are_seconds(seconds: Option<u32>) -> bool
+fn seconds_fit(seconds: Option<u32>) -> bool
     ensures { result ≡ seconds_fit seconds }
 {
     seconds.is_none_or(|n| (1..=SWITCH_SECONDS).contains(&n))
 }
 
-fn is_instruction(i: &Instruction) -> bool
+fn instruction_fits(i: &Instruction) -> bool
     ensures { result ≡ fits (Instruct i.now) }
 {
     (1..=PERIOD_TICKS).contains(&i.maximum)
         && (1..=PARTIES).contains(&i.party)
-        && are_seconds(i.switch)
+        && seconds_fit(i.switch)
 }
 
-fn are_e_values(values: &[Option<u16>]) -> bool
+fn e_values_fit(values: &[Option<u16>]) -> bool
     ensures { result ≡ values_fit values.now }
 {
     values
@@ -39,20 +39,20 @@ fn are_e_values(values: &[Option<u16>]) -> bool
         .all(|value| value.is_none_or(|v| v <= E_VALUE))
 }
 
-fn is_second(second: &Option<SecondSet>) -> bool
+fn second_fits(second: &Option<SecondSet>) -> bool
     ensures { result ≡ second_fits second.now }
 {
-    second.as_ref().is_none_or(|s| are_e_values(&s.set.values)
+    second.as_ref().is_none_or(|s| e_values_fit(&s.set.values)
         && (1..=SWITCH_SECONDS).contains(&s.seconds))
 }
 
 // Whether every value that an operation carries is within its range.
-pub(crate) fn is_in_range(operation: &Operation) -> bool
+pub(crate) fn operation_fits(operation: &Operation) -> bool
     ensures { result ≡ fits operation.now }
 {
     match operation {
-        Operation::Instruct(i) => is_instruction(i),
-        Operation::Advise(a) => are_e_values(&a.first.values) && is_second(&a.second),
+        Operation::Instruct(i) => instruction_fits(i),
+        Operation::Advise(a) => e_values_fit(&a.first.values) && second_fits(&a.second),
         Operation::Confirm(n) => (1..=REPORT_NUMBERS).contains(n),
         Operation::SetUp
         | Operation::Continue

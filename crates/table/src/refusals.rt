@@ -46,6 +46,7 @@ fn admit_instruct(i: &Instruction, c: &Connection) -> Result<(), Refusal>
 }
 
 // The end of a connection is refused at a wrong stage, and where its last report has no place.
+// `wrong` is a flag: bar and disconnect differ in the stage that is wrong.
 fn admit_end(room: bool, wrong: bool, c: &Connection) -> Result<(), Refusal>
     ensures { result ≡ admitted tt (first ((wrong, WrongStage) ∷ no_place (reports_last (Some c.now)) room ∷ [])) }
 {

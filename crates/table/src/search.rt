@@ -34,7 +34,7 @@ fn item_of(place: &Place, timer: Timer) -> Option<Item>
     })
 }
 
-// The first of two items, if there is one.
+// The first of two items, if there is one. No `min` of the two: the order of `Option` puts `None` first.
 fn sooner_of(best: Option<Item>, next: Option<Item>) -> Option<Item>
     ensures { result ≡ sooner best next }
 {
@@ -56,6 +56,7 @@ impl Table {
     fn soonest(&self) -> Option<Item>
         ensures { result ≡ soonest (dues_at (core_of self.now)) }
     {
+        // A rule of the project: a nested labelled loop that yields the item by `break`.
         let mut best: Option<Item> = None;
         let mut slots = self.slots.iter();
         'connections: loop {

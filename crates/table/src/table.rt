@@ -7,7 +7,8 @@ use crate::place::Place;
 use rules::limits::CONNECTIONS;
 
 // The clock, the wait, and a place for each connection. No two places have one address, and every connection is fit at the clock,
-// so that each report that it can make is within the frame's rules.
+// so that each report that it can make is within the frame's rules. A rule of the project: the places are a plain table of
+// sixteen, searched in order.
 #[derive(Drop)]
 pub struct Table {
     pub(crate) clock: u32,

@@ -1,19 +1,23 @@
-use Rattle.std.proofs.Common.{◌≡◌, ◌∷◌, None, Some, ap, ◌∙◌, subst}
+use Rattle.std.proofs.Common.{◌≡◌, ◌∷◌, None, Option, ap, ◌∙◌, subst}
 use Rattle.std.specs.Slice.Iter.{iter_rest}
 use Rattle.table.proofs.Seeking.{Best, Coming, Passed, dues_of, more, onward, enter, leave, at_last}
+use Rattle.table.specs.declared.place.Place.{Place}
 use Rattle.table.proofs.table.Table.soonest.Goals as goal
+use Rattle.table.proofs.table.Table.soonest.Goals.{In-Some}
+
+-- the places that are still to come are the next, s, and those after it
+steps : (c : In-Some) (s : Option Place) → c.in-Some.slot.now ≡ s → iter_rest c.connections.slots ≡ s ∷ iter_rest c.next.new.self
+steps c s e = c.in-Some.ensures.steps ∙ ap (λ s. s ∷ iter_rest c.next.new.self) e
 
 pub timers-preserved : goal.timers-preserved
 timers-preserved c =
     let t = c.args.self.now in
-    let steps : iter_rest c.connections.slots ≡ Some c.in-Some-slot.place ∷ iter_rest c.next.new.self = c.in-Some.ensures.steps ∙ ap (λ s. s ∷ iter_rest c.next.new.self) c.in-Some-slot.is in
-    more t.clock t.slots c.in-Some-slot.place (iter_rest c.next.new.self) (subst (Coming t.clock t.slots) steps c.connections.invariant.coming) c.timers.timer-index c.timers-test.true _ c.timers.best _ _ c.item_of.ensures c.sooner_of-best.ensures c.timers.invariant
+    more t.clock t.slots c.in-Some-slot.place (iter_rest c.next.new.self) (subst (Coming t.clock t.slots) (steps (goal.at.timers-preserved c).In-Some _ c.in-Some-slot.is) c.connections.invariant.coming) c.timers.timer-index c.timers-test.true _ c.timers.best _ _ c.item_of.ensures c.sooner_of-best.ensures c.timers.invariant
 
 pub timers-init : goal.timers-init
 timers-init c =
     let t = c.args.self.now in
-    let steps : iter_rest c.connections.slots ≡ Some c.in-Some-slot.place ∷ iter_rest c.next.new.self = c.in-Some.ensures.steps ∙ ap (λ s. s ∷ iter_rest c.next.new.self) c.in-Some-slot.is in
-    enter t.clock t.slots c.in-Some-slot.place (iter_rest c.next.new.self) c.connections.best (subst (λ ss. Best (dues_of t.slots) (Passed ss) c.connections.best) steps c.connections.invariant.first)
+    enter t.clock t.slots c.in-Some-slot.place (iter_rest c.next.new.self) c.connections.best (subst (λ ss. Best (dues_of t.slots) (Passed ss) c.connections.best) (steps (goal.at.timers-init c).In-Some _ c.in-Some-slot.is) c.connections.invariant.first)
 
 pub connections-preserved : goal.connections-preserved
 connections-preserved c =
@@ -26,10 +30,10 @@ connections-preserved c =
 pub connections-preserved-in_default-slot : goal.connections-preserved-in_default-slot
 connections-preserved-in_default-slot c =
     let t = c.args.self.now in
-    let steps : iter_rest c.connections.slots ≡ None ∷ iter_rest c.next.new.self = c.in-Some.ensures.steps ∙ ap (λ s. s ∷ iter_rest c.next.new.self) c.in_default-slot.is in
+    let k = steps (goal.at.connections-preserved-in_default-slot c).In-Some None c.in_default-slot.is in
     record {
-      coming = onward t.clock t.slots None (iter_rest c.next.new.self) (subst (Coming t.clock t.slots) steps c.connections.invariant.coming);
-      first = subst (λ ss. Best (dues_of t.slots) (Passed ss) c.connections.best) steps c.connections.invariant.first;
+      coming = onward t.clock t.slots None (iter_rest c.next.new.self) (subst (Coming t.clock t.slots) k c.connections.invariant.coming);
+      first = subst (λ ss. Best (dues_of t.slots) (Passed ss) c.connections.best) k c.connections.invariant.first;
     }
 
 pub returns : goal.returns

@@ -6,7 +6,7 @@ use Rattle.std.specs.List.{list_all}
 use borrow.Author.Tests.{tests}
 use Rattle.rules.specs.Limits.{largest_e_value}
 use Rattle.rules.specs.Ranges.{values_fit}
-use Rattle.table.proofs.ranges.are_e_values.Goals as goal
+use Rattle.table.proofs.ranges.e_values_fit.Goals as goal
 
 -- one e-value by itself
 abbrev value_fits : Option ℕ → Bool
