@@ -1,5 +1,5 @@
 // A layer of eight places above any link, a reserve too.
-ghost use Rattle.std.specs.Prelude.{◌≡◌, ◌<◌, true, false, [], length, MatchOption, MatchResult};
+ghost use Rattle.std.specs.Prelude.{◌≡◌, ◌<◌, true, false, [], length, MatchResult};
 ghost use Rattle.report.specs.declared.refusal.Refusal.TheVariants.{NoFreePlace, NothingWaits};
 ghost use Rattle.report.specs.Lawful.{lawful};
 ghost use Rattle.link.specs.Links.{Sends, Takes};
