@@ -1,6 +1,6 @@
 -- What a write behind those that wait and a read of the oldest do to a ring of frames. Assumes nothing.
 use Rattle.std.proofs.Common.{◌≡◌, ℕ, ◌+◌, ◌-◌, ◌/◌, Bool, cond, List, [], ◌∷◌, ◌++◌, length, Ok, Err, Result, sym, refl, ap, ◌∙◌, subst, arith, MatchResult}
-use Rattle.std.proofs.lemmas.List.{length_push, nil_from_length}
+use Rattle.std.proofs.lemmas.List.{length_push}
 use Rattle.report.specs.Lawful.{lawful}
 use Rattle.report.specs.declared.refusal.Refusal.{Refusal}
 use Rattle.report.specs.declared.refusal.Refusal.TheVariants.{OutOfRange, NoFreePlace}
@@ -66,10 +66,6 @@ is_first b w r t size is leaves reads =
       freed = record { free = one; next = ap (λ k. slot k t.window) (sym n) ∙ h.next ∙ ap (λ k. slot k w) n };
       sum = makes_up b t.window;
     }
-
--- nothing waits in a window without places
-pub none_waits : (b : List ℕ) (w : Window) (size : ℕ) → size ≡ places_in b → count_of size w ≡ 0 → waiting b w ≡ []
-none_waits b w size is none = nil_from_length (waiting b w) (omega (arith, length_waiting b w, ap (λ k. count_of k w) is))
 
 -- what one send through a ring in which nothing waited leaves in the bytes that were lent to it
 pub sent-once :

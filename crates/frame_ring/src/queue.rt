@@ -37,6 +37,7 @@ impl<'a> FrameRing<'a> {
     }
 
     // How many reports wait.
+    #[tactic(auto, using(crate::proofs::Waiting::length_waiting))]
     pub fn len(&self) -> usize
         ensures { result ≡ length (frame_view self.now).waiting }
     {

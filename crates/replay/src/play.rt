@@ -28,6 +28,31 @@ pub struct Played {
     pub left: Vec<Report>,
 }
 
+impl Played {
+    // Plays the calls over a link, and takes out the reports that wait at the end.
+    fn run_over<L: Link + Drop>(&mut self, wait: u32, link: L) -> Result<(), AllocError> {
+        let mut link = run(wait, link, &mut self.records);
+        while let Ok(report) = link.take() {
+            self.left.push(report)?;
+        }
+        Ok(())
+    }
+
+    // Each reserve makes the link another type, so that the number of them can't be a value: a branch each.
+    fn run_under<L: Link + Drop>(
+        &mut self,
+        wait: u32,
+        link: L,
+        reserves: usize,
+    ) -> Result<(), AllocError> {
+        match reserves {
+            0 => self.run_over(wait, link),
+            1 => self.run_over(wait, Reserve::new(link)),
+            _ => self.run_over(wait, Reserve::new(Reserve::new(link))),
+        }
+    }
+}
+
 const USUAL_WAIT: u32 = 50;
 
 const USUAL_PILE: Pile = Pile {
@@ -60,35 +85,6 @@ pub(crate) fn read_script(heap: Global, text: &[u8]) -> Result<Script<'_>, Alloc
     Ok(script)
 }
 
-// Plays the calls over a link, and takes out the reports that wait at the end.
-fn play_over<L: Link + Drop>(
-    wait: u32,
-    link: L,
-    records: &mut [CallRecord],
-    left: &mut Vec<Report>,
-) -> Result<(), AllocError> {
-    let mut link = run(wait, link, records);
-    while let Ok(report) = link.take() {
-        left.push(report)?;
-    }
-    Ok(())
-}
-
-// The number of reserves is part of the link's type, and no `dyn Link` may be handed out: a branch each.
-fn play_under<L: Link + Drop>(
-    wait: u32,
-    link: L,
-    reserves: usize,
-    records: &mut [CallRecord],
-    left: &mut Vec<Report>,
-) -> Result<(), AllocError> {
-    match reserves {
-        0 => play_over(wait, link, records, left),
-        1 => play_over(wait, Reserve::new(link), records, left),
-        _ => play_over(wait, Reserve::new(Reserve::new(link)), records, left),
-    }
-}
-
 // Plays a script's calls over the link that it asks for.
 pub(crate) fn play(heap: Global, script: &Script) -> Result<Played, AllocError> {
     let wait = script.wait.unwrap_or(USUAL_WAIT);
@@ -97,7 +93,7 @@ pub(crate) fn play(heap: Global, script: &Script) -> Result<Played, AllocError> 
         places,
         reserves,
     } = script.pile.unwrap_or(USUAL_PILE);
-    let mut records: Vec<CallRecord> = script
+    let records = script
         .entries
         .iter()
         .filter_map(|entry| entry.call.ok())
@@ -106,18 +102,19 @@ pub(crate) fn play(heap: Global, script: &Script) -> Result<Played, AllocError> 
             reply: Reply::Refused(Refusal::Untimely),
         })
         .collect(heap)?;
-    let mut left = Vec::new(heap);
+    let mut played = Played {
+        records,
+        left: Vec::new(heap),
+    };
     match ring {
         Ring::Records => {
             let mut memory = vec![in heap; Report::BLANK; places]?;
-            let link = Fifo::new(&mut memory);
-            play_under(wait, link, reserves, &mut records, &mut left)?;
+            played.run_under(wait, Fifo::new(&mut memory), reserves)?;
         }
         Ring::Frames => {
             let mut bytes = vec![in heap; 0u8; places.saturating_mul(FRAME)]?;
-            let link = FrameRing::new(&mut bytes);
-            play_under(wait, link, reserves, &mut records, &mut left)?;
+            played.run_under(wait, FrameRing::new(&mut bytes), reserves)?;
         }
     }
-    Ok(Played { records, left })
+    Ok(played)
 }

@@ -5,7 +5,7 @@ use rules::{EValues, Order, OrderKind, Reply};
 use std::fmt;
 
 // A value of a crate below, to be printed as `replay` does.
-#[derive(Clone, Copy)]
+#[derive(Clone, Copy, PartialEq, Eq, Debug)]
 pub struct Said<T>(pub T);
 
 impl fmt::Display for Said<Reply> {

@@ -6,14 +6,14 @@ use rules::limits::E_VALUES;
 use rules::{Advice, Call, EValues, Instruction, Operation, SecondSet};
 
 // What a link's ring holds.
-#[derive(Clone, Copy)]
+#[derive(Clone, Copy, PartialEq, Eq, Debug)]
 pub enum Ring {
     Records,
     Frames,
 }
 
 // The link that a script asks for: a ring of so many places, under so many reserves.
-#[derive(Clone, Copy)]
+#[derive(Clone, Copy, PartialEq, Eq, Debug)]
 pub struct Pile {
     pub ring: Ring,
     pub places: usize,
@@ -21,14 +21,14 @@ pub struct Pile {
 }
 
 // The words of a call, and the call, or the refusal of a burst list that can't be made.
-#[derive(Clone, Copy)]
+#[derive(Clone, Copy, PartialEq, Eq, Debug)]
 pub struct Entry<'a> {
     pub words: Words<'a>,
     pub call: Result<Call, Refusal>,
 }
 
 // What a line says.
-#[derive(Clone, Copy)]
+#[derive(Clone, Copy, PartialEq, Eq, Debug)]
 pub enum Line<'a> {
     Blank,
     Wait(u32),
@@ -67,10 +67,9 @@ fn read_pile(words: &mut Words) -> Option<Pile> {
     if places > MOST_PLACES {
         return None;
     }
-    let mut reserves = 0;
-    while reserves < MOST_RESERVES && words.takes("reserve") {
-        reserves += 1;
-    }
+    let reserves = (0..MOST_RESERVES)
+        .take_while(|_| words.takes("reserve"))
+        .count();
     Some(Pile {
         ring,
         places,

@@ -10,7 +10,7 @@ use std::{fmt, str};
 const BLANKS: [char; 2] = [' ', '\t'];
 
 // The words of a line that are still to be read.
-#[derive(Clone, Copy)]
+#[derive(Clone, Copy, PartialEq, Eq, Debug)]
 pub struct Words<'a> {
     rest: &'a str,
 }

@@ -1,5 +1,5 @@
 // A layer of eight places above any link, a reserve too.
-ghost use Rattle.std.specs.Prelude.{◌≡◌, ◌<◌, true, false, [], length, MatchOption, MatchResult};
+ghost use Rattle.std.specs.Prelude.{◌≡◌, ◌<◌, true, false, [], length, MatchResult};
 ghost use Rattle.report.specs.declared.refusal.Refusal.TheVariants.{NoFreePlace, NothingWaits};
 ghost use Rattle.report.specs.Lawful.{lawful};
 ghost use Rattle.link.specs.Links.{Sends, Takes};
@@ -73,25 +73,25 @@ impl<L: Link> Reserve<L> {
         self.held.push(r).map_err(|_| Refusal::NoFreePlace)
     }
 
-    // Moves the oldest held report down where a place is free; nothing where none moves.
-    fn move_down(&mut self) -> Option<()>
-        ensures { MatchOption result (Rests (lies L.Link.view self.old) (lies L.Link.view self.new)) (λ _. Moves (lies L.Link.view self.old) (lies L.Link.view self.new)) }
+    // Moves the oldest held report down where a place is free.
+    fn move_down(&mut self) -> Result<(), Refusal>
+        ensures { MatchResult result (λ _. Moves (lies L.Link.view self.old) (lies L.Link.view self.new)) (λ _. Rests (lies L.Link.view self.old) (lies L.Link.view self.new)) }
     {
         if !self.below.has_room() {
-            return None;
+            return Err(Refusal::NoFreePlace);
         }
-        let (r, rest) = self.held.oldest()?;
+        let (r, rest) = self.held.oldest().ok_or(Refusal::NothingWaits)?;
         // what is held was lawful when it came, so that this link never refuses it
-        self.below.send(r).ok()?;
+        self.below.send(r)?;
         self.held.keep(rest);
-        Some(())
+        Ok(())
     }
 
     // Moves held reports down while places are free.
     fn settle(&mut self)
         ensures { Settles (lies L.Link.view self.old) (lies L.Link.view self.new) }
     {
-        while self.move_down().is_some() {}
+        while self.move_down().is_ok() {}
     }
 
     // Takes the oldest of those below.

@@ -1,10 +1,5 @@
-use Rattle.frame_ring.proofs.Waiting.{is_first, none_waits}
+use Rattle.frame_ring.proofs.Waiting.{is_first}
 use Rattle.frame_ring.proofs.queue.FrameRing.oldest.Goals as goal
-
-pub returns-in_err-turn : goal.returns-in_err-turn
-returns-in_err-turn c =
-    let s = c.args.self.now in
-    rw c.from_residual.ensures (none_waits s.bytes.now s.window _ c.whole_places.ensures c.in_err-turn.ensures)
 
 pub returns : goal.returns
 returns c =

@@ -1,5 +1,5 @@
 use Rattle.std.proofs.Common.{length}
-use Rattle.replay.proofs.play.play_over.Given as goal
+use Rattle.replay.proofs.play.Played.run_over.Given as goal
 
 -- each take leaves one report fewer
 abbrev pub decreases-loop-report : goal.decreases-loop-report
