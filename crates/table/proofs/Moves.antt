@@ -6,7 +6,7 @@ use Rattle.std.specs.Option.{MatchOption}
 use Rattle.std.proofs.lemmas.Bool.Decides.{eqb_tells}
 use Rattle.std.proofs.lemmas.List.{get_or-set_same, get_or-set_other}
 use Rattle.std.proofs.lemmas.List.Quantifiers.{position-Some}
-use Rattle.std.proofs.lemmas.List.Recursion.{is_sum_by, found_at}
+use Rattle.std.proofs.lemmas.List.Recursion.{found_at}
 use Rattle.std.proofs.lemmas.List.Sums.{sum_by-set}
 use Rattle.report.specs.declared.report.Address.{Address}
 use Rattle.report.specs.Lawful.{same}
@@ -72,7 +72,7 @@ past a x v s now before p k = by (same x a) refl k
     by true e k = rw (ap (λ y. holds y s) (same_address x a e) ∙ p) k
     by false e k = ap (λ o. cond (holds x s) (within s) o) k
 
--- how many places are taken
+-- what a place counts for among those that are taken
 abbrev taken : Option Place → ℕ
 taken s = cond (is_some s) 1 0
 
@@ -81,7 +81,8 @@ taken_bit None = refl
 taken_bit (Some p) = refl
 
 used_set : (ss : List (Option Place)) (n : ℕ) (s : Option Place) → n < length ss → used (set ss n s) + taken (get_or ss n None) ≡ used ss + taken s
-used_set ss n s l = let u = is_sum_by used taken refl (λ _ _. refl) in rw (u (set ss n s), u ss) (sum_by-set taken ss n s None l)
+unfolding used
+used_set ss n s l = sum_by-set taken ss n s None l
 
 -- what was found before
 before : (ss : List (Option Place)) (a : Address) (n : ℕ) → Sole a ss n → find ss a ≡ within (get_or ss n None)

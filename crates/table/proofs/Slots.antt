@@ -5,7 +5,7 @@ use Rattle.std.proofs.lemmas.Bool.Decides.{nat_tests}
 use Rattle.std.proofs.lemmas.List.{get_or_past}
 use Rattle.std.proofs.lemmas.List.Quantifiers.{position-Some}
 use Rattle.std.proofs.lemmas.List.Recursion.{found_at, found_nowhere}
-use Rattle.std.proofs.lemmas.List.Sums.{fails_before_first}
+use Rattle.std.proofs.lemmas.List.Sums.{fails_before_first, count_by-le-length, sum_by-cons}
 use Rattle.report.specs.declared.report.Address.{Address}
 use Rattle.report.proofs.Addresses.{same_address}
 use Rattle.rules.specs.declared.connection.Connection.{Connection}
@@ -80,21 +80,16 @@ one_place a (s ∷ ss) (suc i) zero d p q = absurd (twice a s ss i (and_left (al
 one_place a (s ∷ ss) (suc i) (suc k) d p q = ap suc (one_place a ss i k (and_right (alone s ss) (distinct ss) d) p q)
 
 -- how many places are taken
-taken_most : (ss : List (Option Place)) → used ss ≤ length ss
-taken_most [] = omega arith
-taken_most (None ∷ ss) = let ih = taken_most ss in omega arith
-taken_most (Some p ∷ ss) = let ih = taken_most ss in omega arith
-
 full_up : (ss : List (Option Place)) → ((k : ℕ) → k < length ss → is_free (get_or ss k None) ≡ false) → used ss ≡ length ss
+unfolding used
 full_up [] h = refl
-full_up (None ∷ ss) h = let n = h 0 (omega arith) in cc
-full_up (Some p ∷ ss) h = let ih = full_up ss (λ k l. h (suc k) (omega arith)) in omega arith
+full_up (s ∷ ss) h = let n = h 0 (omega arith) in let ih = full_up ss (λ k l. h (suc k) (omega arith)) in grind (arith, nat_tests, sum_by-cons (λ x. cond (is_some x) 1 0) s ss)
 
 room_left : (ss : List (Option Place)) (k : ℕ) → k < length ss → is_free (get_or ss k None) ≡ true → used ss < length ss
+unfolding used
 room_left [] k l e = absurd (omega arith)
-room_left (None ∷ ss) k l e = let m = taken_most ss in omega arith
-room_left (Some p ∷ ss) zero l e = cc
-room_left (Some p ∷ ss) (suc k) l e = let ih = room_left ss k (omega arith) e in omega arith
+room_left (s ∷ ss) zero l e = let m = count_by-le-length is_some ss in grind (arith, nat_tests, sum_by-cons (λ x. cond (is_some x) 1 0) s ss)
+room_left (s ∷ ss) (suc k) l e = let ih = room_left ss k (omega arith) e in grind (arith, nat_tests, sum_by-cons (λ x. cond (is_some x) 1 0) s ss)
 
 pub is_full : (ss : List (Option Place)) (o : Option ℕ) → length ss ≡ connections → o ≡ position is_free ss → not (is_some o) ≡ nat_le connections (used ss)
 is_full ss None h e = let u = full_up ss (nowhere is_free ss (sym e)) in let v : nat_le connections (used ss) ≡ true = grind (arith, nat_tests) in sym v

@@ -1,5 +1,6 @@
 -- Places with connections, by address. Assumes nothing.
-use Rattle.std.specs.Prelude.{ℕ, ◌+◌, Bool, true, false, cond, not, ◌&&◌, List, [], ◌∷◌, slice_index_or, is_some, Some, None, Option}
+use Rattle.std.specs.Prelude.{ℕ, Bool, true, false, cond, not, ◌&&◌, List, [], ◌∷◌, slice_index_or, is_some, Some, None, Option}
+use Rattle.std.specs.List.{count_by}
 use Rattle.report.specs.declared.report.Address.{Address}
 use Rattle.report.specs.Lawful.{same}
 use Rattle.rules.specs.declared.connection.Connection.{Connection}
@@ -31,9 +32,8 @@ abbrev pub is_free : Option Place → Bool
 is_free s = not (is_some s)
 
 -- how many places are taken
-abbrev pub used : List (Option Place) → ℕ
-used [] = 0
-used (s ∷ ss) = cond (is_some s) 1 0 + used ss
+unfoldable pub used : List (Option Place) → ℕ
+used ss = count_by is_some ss
 
 -- no place further on has the address of this one
 abbrev pub alone : Option Place → List (Option Place) → Bool

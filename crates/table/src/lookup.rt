@@ -24,6 +24,7 @@ fn is_at(slot: &Option<Place>, address: Address) -> bool
 
 impl Table {
     // A table with no connection yet, whose clock is at 0. The wait for confirmations is clamped to 1 to 600 ticks.
+    #[tactic(auto, unfolding(crate::specs::Places::used))]
     pub fn new(wait: u32) -> Table
         ensures { core_of result ≡ start wait }
     {
