@@ -1,4 +1,5 @@
 // Bytes as places of one frame each. A write fills one place, and leaves all other bytes as they are.
+// Functions over the lent bytes, with the place or the window and the report beside them, as a rule of the project has it.
 ghost use Rattle.std.specs.Prelude.{◌≡◌, ◌<◌, if◌then◌else◌, MatchResult};
 ghost use Rattle.report.specs.Lawful.{lawful};
 ghost use Rattle.report.specs.declared.refusal.Refusal.TheVariants.{OutOfRange, NoFreePlace};

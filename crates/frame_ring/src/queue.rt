@@ -11,6 +11,7 @@ use ring::Window;
 
 // Reports wait as frames, one to each whole place of the lent bytes; what is left past the last whole place is never written.
 // No model: clauses also pin the lent bytes, who lent them and the next place.
+// Not a `Fifo`, as `ring::Window` says: its places are bytes that mean frames.
 #[derive(Drop)]
 pub struct FrameRing<'a> {
     bytes: &'a mut [u8],

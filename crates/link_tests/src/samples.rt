@@ -6,6 +6,8 @@ use std::process::Abort;
 use std::test::Fail;
 use std::{array, iter};
 
+// Samples like these stand in `pile_demo` too: a crate of its own for so few lines would be no plainer.
+
 // More reports than any pile of these tests has places.
 pub(crate) const ROW: usize = 20;
 

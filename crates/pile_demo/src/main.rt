@@ -13,7 +13,7 @@ use std::{array, io};
 // More reports than any of the piles has places.
 const ROW: usize = 20;
 
-// A sample report. The tests of links have one alike: a crate of its own for so few lines would be no plainer.
+// A sample report. The tests of links have one alike, and a row of them: a crate of its own for so few lines would be no plainer.
 fn numbered(number: u16) -> Report {
     Report {
         address: Address { kind: 1, number: 2 },

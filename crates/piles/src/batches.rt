@@ -28,8 +28,8 @@ pub fn send_all<L: Link>(link: &mut L, reports: &[Report]) -> Result<(), Unsent>
     Ok(())
 }
 
-// Takes reports, oldest first, into a lent place, until it is full or nothing waits: says how many.
-// So a link whose reports fit into the place is emptied.
+// Takes reports, oldest first, into a lent place, until it is full or nothing waits: says how many, and hands out no slice,
+// since the place is lent. So a link whose reports fit into the place is emptied.
 pub fn take_all<L: Link>(link: &mut L, place: &mut [Report]) -> usize
     ensures took { TookFirst (L.Link.view link.old) place.old result place.new (L.Link.view link.new) }
     ensures stops { result ≡ min (length place.old) (length (L.Link.view link.old).waiting) }

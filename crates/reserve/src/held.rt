@@ -11,6 +11,7 @@ use ring::{Full, Window, first};
 pub const RESERVE_PLACES: usize = 8;
 
 // The held reports, oldest first. No model: a refused call leaves every place as it was, and a list would say less.
+// Not a `Fifo`, as `ring::Window` says: its places are its own, neither lent nor on a heap.
 #[derive(Clone, Copy)]
 pub struct Held {
     places: [Report; RESERVE_PLACES],

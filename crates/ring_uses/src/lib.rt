@@ -15,7 +15,7 @@ pub struct Bursts {
 }
 
 impl Bursts {
-    // So many bursts, or nothing where there are none or more than three.
+    // So many bursts, or nothing where there are none or more than three: out of range is the one reason.
     pub fn new(count: u8) -> Option<Bursts>
         ensures { MatchOption result (Within 1 3 count → ⊥) (λ b. b.count ≡ count) }
     {
@@ -28,7 +28,7 @@ impl Bursts {
     }
 }
 
-// An element that may hold a value with a range.
+// An element that may hold a value with a range. `Nothing` is one of its cases, as it is of an order's, and no absent value.
 #[derive(Clone, Copy, PartialEq, Eq, Debug)]
 pub enum Slip {
     Nothing,
