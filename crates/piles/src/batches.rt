@@ -1,5 +1,6 @@
 // Whole rows of reports, through any link.
-ghost use Rattle.std.specs.Prelude.{◌≡◌, ◌≤◌, min, [], length, take};
+ghost use Rattle.std.specs.Prelude.{◌≡◌, ◌≤◌, min, [], length, take, Ok, Err, MatchResult};
+ghost use Rattle.link.specs.Links.{Sends};
 ghost use Rattle.reserve.specs.Lies.{AllLawful};
 ghost use Rattle.piles.specs.Calls.{Calls};
 ghost use Rattle.piles.specs.Batches.{sent_count, refusal_of, SentFirst, Stops, TookFirst, Fills, Empties};
@@ -14,6 +15,14 @@ pub struct Unsent {
     pub refusal: Refusal,
 }
 
+// Sends the report that stands after so many others of its row.
+fn send_at<L: Link>(link: &mut L, count: usize, report: Report) -> Result<(), Unsent>
+    ensures { MatchResult result (λ _. Sends (L.Link.view link.old) report (Ok tt) (L.Link.view link.new)) (λ u. (u.count ≡ count) × Sends (L.Link.view link.old) report (Err u.refusal) (L.Link.view link.new)) }
+{
+    link.send(report)
+        .map_err(|refusal| Unsent { count, refusal })
+}
+
 // Sends reports in their order until one is refused. So an empty link is filled by lawful reports to its last place.
 pub fn send_all<L: Link>(link: &mut L, reports: &[Report]) -> Result<(), Unsent>
     ensures sent { SentFirst (L.Link.view link.old) reports.now (sent_count reports.now result) (L.Link.view link.new) }
@@ -22,8 +31,7 @@ pub fn send_all<L: Link>(link: &mut L, reports: &[Report]) -> Result<(), Unsent>
     ensures fills { (L.Link.view link.old).waiting ≡ [] → AllLawful reports.now → Fills (L.Link.view link.old).capacity reports.now (sent_count reports.now result) (refusal_of result) (L.Link.view link.new) }
 {
     for (count, report) in reports.iter().enumerate() {
-        link.send(*report)
-            .map_err(|refusal| Unsent { count, refusal })?;
+        send_at(link, count, *report)?;
     }
     Ok(())
 }

@@ -1,6 +1,5 @@
-use Rattle.std.proofs.Common.{◌≡◌, ℕ, ◌+◌, ◌<◌, List, length, get_or, drop, Ok, Err, Result, MatchResult, sym, ◌∙◌, subst, arith, rules}
+use Rattle.std.proofs.Common.{◌≡◌, ℕ, ◌+◌, ◌<◌, List, length, get_or, drop, Err, sym, ◌∙◌, subst, arith}
 use Rattle.std.proofs.lemmas.List.{drop_more}
-use Rattle.report.specs.declared.refusal.Refusal.{Refusal}
 use Rattle.report.specs.declared.report.Report.{Report}
 use Rattle.link.specs.Links.{View, Sends}
 use Rattle.piles.specs.declared.batches.Unsent.{Unsent}
@@ -11,32 +10,29 @@ use Rattle.piles.proofs.Wholes.{learned}
 use Rattle.piles.proofs.batches.send_all.Goals as goal
 
 -- the next one is refused, with what the send answers
-stopped : (v u w : View) (rs : List Report) (n : ℕ) (d : Report) (a : Result (Unit {0}) Refusal) (x : Unsent) → n < length rs → SentFirst v rs n u → Sends u (get_or rs n d) a w → MatchResult a (λ _. ⊥) (λ e. x ≡ record { count = n; refusal = e }) → SentFirst v rs x.count w × RefusedNext x.refusal w rs x.count
-stopped v u w rs n d (Ok _) x lt so given is = absurd is
-stopped v u w rs n d (Err e) x lt so given is =
+stopped : (v u w : View) (rs : List Report) (n : ℕ) (d : Report) (x : Unsent) → n < length rs → SentFirst v rs n u → x.count ≡ n → Sends u (get_or rs n d) (Err x.refusal) w → SentFirst v rs x.count w × RefusedNext x.refusal w rs x.count
+stopped v u w rs n d x lt so at given =
     let same : w ≡ u = given.1 in
-    subst (λ y. SentFirst v rs y.count w × RefusedNext y.refusal w rs y.count) (sym is) (
+    subst (λ m. SentFirst v rs m w × RefusedNext x.refusal w rs m) (sym at) (
       record { few = so.few; room = so.room; admitted = so.admitted; is = same ∙ so.is },
-      record { next = get_or rs n d; others = drop (n + 1) rs; left = drop_more rs n d lt; why = subst (λ x. Sends x (get_or rs n d) (Err e) w) (sym same) given },
+      record { next = get_or rs n d; others = drop (n + 1) rs; left = drop_more rs n d lt; why = subst (λ y. Sends y (get_or rs n d) (Err x.refusal) w) (sym same) given },
     )
 
-pub returns-in_err-map_err : goal.returns-in_err-map_err
-returns-in_err-map_err g c =
+pub returns-in_err-send_at : goal.returns-in_err-send_at
+returns-in_err-send_at g c =
     let view = g.L.Link.view in
     let p = err_from_is_err_and c.from_residual.result c.from_residual.ensures.1 in
-    let n = c.loop-count.count-counter in
-    let unsent = c.in_err-map_err.field-0.0 in
-    let is : MatchResult c.send.result (λ _. ⊥) (λ e. unsent ≡ record { count = n; refusal = e }) = search rules in
-    let both = stopped (view c.args.link.now) (view c.loop-count.link) (view c.send.new.self) c.args.reports.now n _ c.send.result unsent (omega arith) c.loop-count.invariant c.send.ensures is in
+    let unsent = c.in_err-send_at.field-0.0 in
+    let both = stopped (view c.args.link.now) (view c.loop-count.link) (view c.send_at.new.link) c.args.reports.now c.loop-count.count _ unsent (omega arith) c.loop-count.invariant c.in_err-send_at.ensures.0 c.in_err-send_at.ensures.1 in
     rw (p.1, p.2) record {
       sent = both.0;
       stops = both.1;
-      calls = sent_calls (view c.args.link.now) (view c.send.new.self) c.args.reports.now unsent.count both.0;
-      fills = λ none all. (learned view g.L.Link.whole).fills c.args.link.now c.send.new.self _ _ _ none all both.0 both.1;
+      calls = sent_calls (view c.args.link.now) (view c.send_at.new.link) c.args.reports.now unsent.count both.0;
+      fills = λ none all. (learned view g.L.Link.whole).fills c.args.link.now c.send_at.new.link _ _ _ none all both.0 both.1;
     }
 
 pub returns-clause-calls : goal.returns-clause-calls
 returns-clause-calls g c =
     let view = g.L.Link.view in
-    let all : c.loop-count.count-counter ≡ length c.args.reports.now = omega arith in
+    let all : c.loop-count.count ≡ length c.args.reports.now = omega arith in
     sent_calls (view c.args.link.now) (view c.loop-count.link) c.args.reports.now _ (rw (← all) c.loop-count.invariant)
