@@ -19,4 +19,4 @@ pub const TONE_LENGTH: u8 = 20;
 pub const TONE_GAP: u8 = 20;
 
 // The most tones of a list: a place for so many is long enough for every plan.
-pub const TONES: usize = 9;
+pub const TONES: usize = BURSTS as usize * BURST_TONES as usize;

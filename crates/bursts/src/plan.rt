@@ -56,8 +56,8 @@ impl BurstList {
         }
     }
 
-    // Writes each tone's start and length into the front of `place`, and says how many tones there are: a count, since the
-    // place is lent.
+    // Writes each tone's start and length into the front of `place`, and says how many tones there are: a count, as its public
+    // contract has it.
     pub fn tone_plan(&self, place: &mut [Tone]) -> Result<usize, Refusal>
         ensures { Planned self.now place.old place.new result }
     {

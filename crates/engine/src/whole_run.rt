@@ -11,7 +11,8 @@ use link::Link;
 use report::{Address, Refusal};
 use rules::{Call, Order, OrderKind, Reply};
 
-// A call, and what it was answered.
+// A call, and what it was answered. `reply` is no `Option`: a host lends the records, and `run` writes every reply before it
+// is read.
 #[derive(Clone, Copy, PartialEq, Eq, Debug)]
 pub struct CallRecord {
     pub call: Call,

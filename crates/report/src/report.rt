@@ -68,7 +68,7 @@ impl Elapsed {
         }
     }
 
-    // The interval, or 0 where there is none.
+    // The interval, or 0 where there is none: 0 is what a frame holds there. The name and its contract are public.
     pub fn interval(self) -> u32
         ensures { result ≡ interval_of self }
     {

@@ -79,7 +79,7 @@ pub struct Order {
 }
 
 // The answer to a call: a refusal, an order, or a report that was taken.
-// `Refused` is one of the three that the definitions name: a `Result` around the other two would be taken apart twice, no plainer.
+// A reply is one of three in the rules' definitions: a `Result` would put two of them one level down in each, no plainer.
 #[derive(Clone, Copy, PartialEq, Eq, Debug)]
 pub enum Reply {
     Refused(Refusal),

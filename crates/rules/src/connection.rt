@@ -22,7 +22,8 @@ pub struct Period {
 }
 
 // How many instructions came, the party of the newest, the open period, and the previous period's end.
-#[derive(Clone, Copy, PartialEq, Eq, Debug)]
+// `had` is a number that is compared with a limit: 0 needs no `Option`.
+#[derive(Clone, Copy, PartialEq, Eq, Default, Debug)]
 pub struct Grant {
     pub had: u16,
     pub party: u8,
@@ -31,7 +32,8 @@ pub struct Grant {
 }
 
 // How many tariff switches counted, the tick of the last one, and the interval that the next report holds.
-#[derive(Clone, Copy, PartialEq, Eq, Debug)]
+// `switches` is a number that is compared with a limit: 0 needs no `Option`.
+#[derive(Clone, Copy, PartialEq, Eq, Default, Debug)]
 pub struct Meter {
     pub switches: u8,
     pub last: Option<u32>,
@@ -39,7 +41,7 @@ pub struct Meter {
 }
 
 // The e-value sets that are still to be ordered.
-#[derive(Clone, Copy, PartialEq, Eq, Debug)]
+#[derive(Clone, Copy, PartialEq, Eq, Default, Debug)]
 pub struct StoredSets {
     pub first: Option<EValues>,
     pub second: Option<EValues>,

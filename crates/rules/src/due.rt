@@ -23,7 +23,7 @@ impl Timer {
 }
 
 // The ticks at which the timers of a connection are due, those of them that run.
-#[derive(Clone, Copy, PartialEq, Eq, Debug)]
+#[derive(Clone, Copy, PartialEq, Eq, Default, Debug)]
 pub struct Dues {
     pub tariff: Option<u32>,
     pub advice: Option<u32>,

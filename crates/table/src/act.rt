@@ -47,7 +47,7 @@ impl Table {
         }
     }
 
-    // An operation at an address. `room` is whether a report has a free place.
+    // An operation at an address. `room` is whether a report has a free place: the caller says so, as a table knows no link.
     pub fn act(
         &mut self,
         room: bool,

@@ -32,28 +32,10 @@ fn set_up() -> Connection
 {
     Connection {
         stage: Stage::Consultation,
-        grant: Grant {
-            had: 0,
-            party: 0,
-            period: None,
-            previous: None,
-        },
-        meter: Meter {
-            switches: 0,
-            last: None,
-            interval: None,
-        },
-        sets: StoredSets {
-            first: None,
-            second: None,
-        },
-        dues: Dues {
-            tariff: None,
-            advice: None,
-            sound: None,
-            end: None,
-            limit: None,
-        },
+        grant: Grant::default(),
+        meter: Meter::default(),
+        sets: StoredSets::default(),
+        dues: Dues::default(),
         sent: 0,
         awaiting: None,
     }
@@ -148,7 +130,8 @@ fn advise(tick: Tick, v: &Advice, c: &Connection) -> Connection
     }
 }
 
-// What becomes of the connection at an address by an operation that is admitted.
+// What becomes of the connection at an address by an operation that is admitted. `operation_fits` tested the ranges of its
+// values: a checked copy of each would double the types.
 pub(crate) fn operate(
     operation: &Operation,
     tick: Tick,

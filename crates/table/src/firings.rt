@@ -9,8 +9,8 @@ use crate::tick::Tick;
 use report::Standing;
 use rules::{Connection, Dues, Grant, Item, Meter, Stage, StoredSets, Timer};
 
-// A tariff switch counts one switch at its due tick, and after the answer an interval ends with it. This and `close` have the
-// tick and the place, and no `&Item`, like `interval_to` and `make`, which they call.
+// A tariff switch counts one switch at its due tick, and after the answer an interval ends with it. A tick and no `&Item`,
+// as in `make`.
 fn switch_over(asof: u32, place: &Place) -> Connection
     ensures { result ≡ switched asof place.now.connection }
 {

@@ -6,6 +6,8 @@ use report::{Address, Report};
 use rules::{Connection, Order};
 
 // A connection at its address. Its numbers are within their types: whoever builds one proves so, and only this crate can.
+// What a place reports, orders and becomes are functions in modules of their own, each over the place and a tick: methods
+// would only move the parameter.
 #[derive(Clone, Copy, PartialEq, Eq, Debug)]
 pub struct Place {
     pub(crate) address: Address,

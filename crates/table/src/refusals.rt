@@ -1,6 +1,5 @@
 // When an operation is refused at a connection.
 ghost use Rattle.std.specs.Prelude.{◌≡◌, true, [], ◌∷◌, Some};
-ghost use Rattle.report.specs.declared.refusal.Refusal.TheVariants.{WrongStage};
 ghost use Rattle.rules.specs.declared.call.Operation.TheVariants.{Instruct};
 ghost use Rattle.rules.specs.Rows.{awaits, too_long, no_place, reports_last, operation_rows, first};
 ghost use Rattle.table.specs.State.{admitted};
@@ -45,12 +44,10 @@ fn admit_instruct(i: &Instruction, c: &Connection) -> Result<(), Refusal>
     )
 }
 
-// The end of a connection is refused at a wrong stage, and where its last report has no place.
-// `wrong` is a flag: bar and disconnect differ in the stage that is wrong.
-fn admit_end(room: bool, wrong: bool, c: &Connection) -> Result<(), Refusal>
-    ensures { result ≡ admitted tt (first ((wrong, WrongStage) ∷ no_place (reports_last (Some c.now)) room ∷ [])) }
+// The end of a connection is refused where its last report has no place.
+fn admit_last(room: bool, c: &Connection) -> Result<(), Refusal>
+    ensures { result ≡ admitted tt (first (no_place (reports_last (Some c.now)) room ∷ [])) }
 {
-    refuse_if(wrong, Refusal::WrongStage)?;
     refuse_if(c.grant.had != 0 && !room, Refusal::NoFreePlace)
 }
 
@@ -61,11 +58,17 @@ pub(crate) fn admit_at(room: bool, operation: &Operation, c: &Connection) -> Res
     match operation {
         Operation::SetUp => Err(Refusal::AddressConnected),
         Operation::Continue => refuse_if(c.stage != Stage::Consultation, Refusal::WrongStage),
-        Operation::Bar => admit_end(room, c.stage != Stage::Consultation, c),
+        Operation::Bar => {
+            refuse_if(c.stage != Stage::Consultation, Refusal::WrongStage)?;
+            admit_last(room, c)
+        }
         Operation::Instruct(i) => admit_instruct(i, c),
         Operation::Advise(_) => refuse_if(c.dues.advice.is_some(), Refusal::Pending),
         Operation::Answer => refuse_if(c.stage != Stage::Waiting, Refusal::WrongStage),
-        Operation::Disconnect => admit_end(room, c.stage == Stage::Consultation, c),
+        Operation::Disconnect => {
+            refuse_if(c.stage == Stage::Consultation, Refusal::WrongStage)?;
+            admit_last(room, c)
+        }
         Operation::Confirm(n) => refuse_if(!is_awaiting(*n, &c.awaiting), Refusal::WrongStage),
         Operation::Repeat => {
             refuse_if(c.awaiting.is_none(), Refusal::WrongStage)?;

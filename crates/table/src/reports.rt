@@ -18,8 +18,8 @@ pub(crate) fn interval_to(asof: u32, c: &Connection) -> Option<u32>
     answer_tick(&c.stage).map(|answer| asof.saturating_sub(answer.max(last)))
 }
 
-// The report of a connection as of a tick: one number up, and the time by the answer and the switches counted. A tick and a
-// place, and no `&Item`: an operation makes reports too, at its own tick, with no item.
+// The report of a connection as of a tick: one number up, and the time by the answer and the switches counted. A tick and
+// no `&Item`: an operation makes reports too.
 pub(crate) fn make(asof: u32, standing: Standing, place: &Place) -> Report
     ensures { result ≡ made place.now.address asof standing place.now.connection }
 {

@@ -13,7 +13,7 @@ use rules::Connection;
 
 impl Table {
     // At the tick the connection at an address becomes `next`: in `at`, the place of the address, or else in the first
-    // free place.
+    // free place. `at` is handed in, so that the address is searched once.
     pub(crate) fn settle(
         &mut self,
         tick: Tick,
