@@ -1,5 +1,5 @@
-// Bytes as places of one frame each. A write fills one place, and leaves all other bytes as they are.
-// Functions over the lent bytes, with the place or the window and the report beside them, as a rule of the project has it.
+// Bytes as places of one frame each.
+// Functions over lent bytes that write one place and leave the rest: the project's form for records, and frames follow it.
 ghost use Rattle.std.specs.Prelude.{◌≡◌, ◌<◌, if◌then◌else◌, MatchResult};
 ghost use Rattle.report.specs.Lawful.{lawful};
 ghost use Rattle.report.specs.declared.refusal.Refusal.TheVariants.{OutOfRange, NoFreePlace};
@@ -18,6 +18,7 @@ pub(crate) fn whole_places(bytes: &[u8]) -> usize
 }
 
 // The report in a place: a blank one where no frame stands in it.
+// In a ring made by `new` each waiting place holds a frame; the meaning is total, so that every place means a report.
 pub(crate) fn read_place(bytes: &[u8], i: usize) -> Report
     requires { i < places_in bytes.now }
     ensures { result ≡ place_at bytes.now i }

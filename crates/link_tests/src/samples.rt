@@ -48,6 +48,7 @@ pub(crate) fn in_order(reports: &[Report], first: u16, count: usize) -> bool {
 }
 
 // Sends a report, or says the number that it is refused with.
+// Refusals are compared by the returned numbers, since these are tested.
 pub(crate) fn sent<L: Link>(link: &mut L, report: Report) -> Result<(), u8> {
     link.send(report).map_err(Refusal::number)
 }

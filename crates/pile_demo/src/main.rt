@@ -33,11 +33,16 @@ fn show<L: Link>(
     place: &mut [Report],
 ) -> io::Result<()> {
     let row: [Report; ROW] = array::from_fn(|i| numbered(i as u16 + 1));
-    let (count, number) = send_all(link, &row).map_or_else(
-        |unsent| (unsent.count, unsent.refusal.number()),
-        |()| (ROW, 0),
-    );
-    print!(rt; "{name}: {count} sent, then refused with {number}; taken")?;
+    match send_all(link, &row) {
+        Ok(()) => print!(rt; "{name}: all {ROW} sent; taken")?,
+        Err(unsent) => {
+            let number = unsent.refusal.number();
+            print!(rt;
+                "{name}: {} sent, then refused with {number}; taken",
+                unsent.count
+            )?;
+        }
+    }
     let taken = take_all(link, place);
     for report in &place[..taken] {
         print!(rt; " {}", report.number)?;

@@ -8,7 +8,7 @@ ghost use Rattle.piles.specs.Batches.{sent_count, refusal_of, SentFirst, Stops, 
 use link::Link;
 use report::{Refusal, Report};
 
-// After so many reports of a row the next one was refused.
+// After so many reports of a row the next one was refused. Like account's `Stop`, in a crate that knows no accounts.
 #[derive(Clone, Copy, PartialEq, Eq, Debug)]
 pub struct Unsent {
     pub count: usize,
@@ -36,8 +36,8 @@ pub fn send_all<L: Link>(link: &mut L, reports: &[Report]) -> Result<(), Unsent>
     Ok(())
 }
 
-// Takes reports, oldest first, into a lent place, until it is full or nothing waits: says how many, and hands out no slice,
-// since the place is lent. So a link whose reports fit into the place is emptied.
+// Takes reports, oldest first, into a lent place, until it is full or nothing waits, and says how many: a count, as its
+// public contract has it. So a link whose reports fit into the place is emptied.
 pub fn take_all<L: Link>(link: &mut L, place: &mut [Report]) -> usize
     ensures took { TookFirst (L.Link.view link.old) place.old result place.new (L.Link.view link.new) }
     ensures stops { result ≡ min (length place.old) (length (L.Link.view link.old).waiting) }

@@ -1,5 +1,5 @@
 // Two piles as instances of `filled`, which is written for every link.
-// Each contract says `SentFirst`, `Stops` and `Fills` of another pile, so that no type could say them once.
+// Each filling promises the same of another pile, whose capacity is another number.
 ghost use Rattle.std.specs.Prelude.{◌≡◌, ◌+◌, ◌*◌, [], length};
 ghost use Rattle.frame_ring.specs.Places.{places_in};
 ghost use Rattle.reserve.specs.Lies.{reserve_places, AllLawful};

@@ -21,7 +21,7 @@ use stream::Tally;
 
 // Prints each call with its reply, and then the line that is not understood.
 fn say_calls<W: Write>(out: &mut W, script: &Script, records: &[CallRecord]) -> io::Result<()> {
-    // `run` takes the calls that can be made as a slice of their own: one record each, in the order of their entries
+    // `run` takes a slice of records alone, so the entries stand beside them: one record for each that has a call, in order
     let mut replies = records.iter().map(|record| record.reply);
     for Entry { words, call } in &script.entries {
         let reply = match call {

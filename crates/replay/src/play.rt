@@ -99,6 +99,7 @@ pub(crate) fn play(heap: Global, script: &Script) -> Result<Played, AllocError> 
         .filter_map(|entry| entry.call.ok())
         .map(|call| CallRecord {
             call,
+            // not played yet: `run` writes every reply before it is read
             reply: Reply::Refused(Refusal::Untimely),
         })
         .collect(heap)?;

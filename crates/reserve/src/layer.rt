@@ -11,6 +11,8 @@ use report::{Refusal, Report};
 
 // The list is the link's below, then the held ones. A reserve asks before it calls, so that what it
 // refuses leaves its whole value as it was, whatever the link below does where it refuses.
+// `Sound` stands in three contracts: `new` promises it, a send and a take keep it. A ghost field would have to hold where
+// `take_below` calls `settle`, and there it may not: `settle` and `move_down` over the two fields would be no plainer.
 #[derive(Drop)]
 pub struct Reserve<L: Link> {
     below: L,

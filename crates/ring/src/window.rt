@@ -78,6 +78,7 @@ impl Window {
 }
 
 // Writes `x` behind those that wait, or nothing where every place is taken.
+// An `Option`, as of `behind`: each caller has a refusal of its own for it, so that an error type here would be mapped each time.
 pub fn append<T: Copy>(places: &mut [T], window: Window, x: T) -> Option<Window>
     ensures { MatchOption result (Refused places.old window places.new) (Appends places.old window x places.new) }
 {
