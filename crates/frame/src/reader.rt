@@ -24,6 +24,7 @@ fn cut(bytes: &[u8]) -> Refusal
 }
 
 // Reads the frame at the front of some bytes. The rules are checked in the order of the bytes; too few bytes for a frame come first of all.
+// A `let .. else` for each field check is a rule of the project.
 pub fn read(bytes: &[u8]) -> Result<(Report, &[u8]), Refusal>
     ensures { MatchResult result (λ o. FrameRead bytes.now o.0 o.1.now) (λ e. FrameRefused bytes.now e) }
 {

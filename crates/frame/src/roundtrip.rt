@@ -7,8 +7,8 @@ use crate::reader::read;
 use crate::writer::write;
 use report::{Refusal, Report};
 
-// Writes the report's frame into a place of its own, and reads it. Apart from `frames_read_back`, so that this has the proof of its
-// returns, and that one the proof of what holds of every frame.
+// Writes the report's frame into a place of its own, and reads it. `frames_read_back`, which has the theorem, calls this function,
+// which does the work, so that its proof is about one result.
 fn write_and_read(report: Report) -> Result<Report, Refusal>
     ensures { MatchResult result (λ q. Back report q) (λ e. NotBack report e) }
 {

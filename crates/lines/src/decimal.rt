@@ -1,7 +1,7 @@
 // Numbers as decimal digits, from the first to the last: by cases of their length and two digits at a time, since a program
 // that prints accounts spends much of its time on digits. The kit's `itoa` was tried and was slower: `tally` took 156 ms against
-// 115 ms. The pieces of two, four and eight digits are functions of their own: each has its bound, where a table or a loop
-// would need a test.
+// 115 ms. Two, four and eight digits are functions of their own, since each bound is part of its contract. `put_decimal`
+// and `put_long_decimal` are two, since 32 bits are faster.
 ghost use Rattle.std.specs.Prelude.{◌≡◌, ◌^◌, ◌<◌, ◌≤◌, length, decimal};
 ghost use Rattle.lines.specs.Page.{room, HasRoom, Adds};
 ghost use Rattle.lines.specs.Digits.{two_digits, four_digits, eight_digits, decimal_size, long_size};

@@ -1,7 +1,8 @@
 // A page of lent bytes that a text is put on.
 ghost use Rattle.std.specs.Prelude.{◌≡◌, ℕ, ◌≤◌, length};
 
-// The first `end` bytes are the text. Those behind it are as they were lent.
+// The first `end` bytes are the text. Those behind it are as they were lent. No Model: clauses name the bytes behind the
+// text and the lender too.
 #[derive(Drop)]
 pub struct Page<'a> {
     pub(crate) bytes: &'a mut [u8],

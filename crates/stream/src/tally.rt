@@ -4,8 +4,9 @@ ghost use Rattle.std.specs.Prelude.{◌≡◌};
 use account::AccountRecord;
 use report::limits::OPEN_ACCOUNTS;
 
-// The open accounts, the place of the next byte in the input, and whether a fault ended it. A flag, not an Option around the
-// records and the place: once a fault ended the input nothing else is read, and every call would have to take the Option apart.
+// The open accounts, the place of the next byte in the input, and whether a fault ended it. A flag: an Option around the
+// rest would be taken apart where the flag is tested now, and again where the rest is used, which is no plainer.
+// No Model: the records mean a book only by the relation `Stands`.
 #[derive(Clone, Copy)]
 pub struct Tally {
     pub(crate) records: [AccountRecord; OPEN_ACCOUNTS],

@@ -15,7 +15,7 @@ use lines::{LINE, Layer, Page};
 use report::Report;
 
 impl Tally {
-    // Apart from `new`, whose proof starts from what these values are.
+    // `new` promises what follows from these values, and a proof about a call's result is shorter than one about a literal.
     fn blank() -> Tally
         ensures { Blank result }
     {
@@ -89,6 +89,7 @@ impl Tally {
 
     // Writes what is told of the whole frames that a block begins with into the front of a place,
     // and returns where the text ends; or nothing where the place is too short for so many lines.
+    // A length, since the public call keeps its form, and a slice handed out would hold the caller's buffer.
     pub fn tell_block(&mut self, block: &[u8], out: &mut [u8]) -> Option<usize>
         ensures { Tells (frames_in block.now) (unless_ended (tell_frames block.now)) self.old out.old result out.new self.new }
     {
@@ -100,7 +101,8 @@ impl Tally {
         Some(page.len())
     }
 
-    // Writes what is told of the bytes that the input ends with, after its whole frames.
+    // Writes what is told of the bytes that the input ends with, after its whole frames, and returns
+    // a length, or nothing where no longest line fits, as `tell_block` does.
     pub fn tell_rest(&mut self, rest: &[u8], out: &mut [u8]) -> Option<usize>
         ensures { Tells 1 (unless_ended (tell_end rest.now)) self.old out.old result out.new self.new }
     {
@@ -125,7 +127,7 @@ fn whole_frames(bytes: usize) -> usize
 }
 
 // Moves the bytes after the whole frames among the first `filled` of a buffer to its front, and
-// returns how many they are. No more bytes are filled than the buffer has. The program lends the buffer and keeps `filled`.
+// returns how many they are. No more bytes are filled than the buffer has. A public call keeps its form: a buffer, and how much of it is filled.
 pub fn keep_rest(buffer: &mut [u8], filled: usize) -> usize
     ensures { Keeps buffer.old filled result buffer.new }
 {

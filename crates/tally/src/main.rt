@@ -73,7 +73,7 @@ impl<R: Read + Drop, W: Write + Drop> Session<R, W> {
 
 fn run(rt: &HostRuntime) -> anyhow::Result<()> {
     let mut session = Session::new(rt.alloc(), rt.stdin(), rt.stdout())?;
-    // Not `loop`: one that need not end takes a handle that is not allowed here, so this one counts.
+    // A loop with no bound takes a handle, `Wait`, and the project allows none (it has no file HANDLES), so this counts.
     for _ in 0..u64::MAX {
         if !session.pass_on()? {
             break;

@@ -25,7 +25,7 @@ fn switched(time: u32, interval: Option<u32>) -> Elapsed {
     Elapsed::Switched { time, interval }
 }
 
-// The number that a report is refused with, if it is.
+// The number that a report is refused with, if it is: the returned numbers are what is tested.
 fn refused(records: &mut [AccountRecord], report: &Report) -> Option<u8> {
     read_one(records, report).err().map(Refusal::number)
 }

@@ -19,7 +19,7 @@ fn sample() -> Report {
     }
 }
 
-// The number and the place of the refusal of some bytes, if they are refused.
+// The number and the place of the refusal of some bytes, if they are refused: the returned numbers are what is tested.
 fn refused(bytes: &[u8]) -> Option<(u8, usize)> {
     let refusal = read(bytes).err()?;
     Some((refusal.number(), refusal.place()?))
