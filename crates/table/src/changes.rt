@@ -16,7 +16,7 @@ use rules::{
     Advice, Connection, Dues, EValues, Grant, Instruction, Meter, Operation, Stage, StoredSets,
 };
 
-// The answer's tick, if there was an answer.
+// The answer's tick, if there was an answer. Where another value goes with the stage, a match says it more plainly than this.
 pub(crate) fn answer_tick(stage: &Stage) -> Option<u32>
     ensures { result ≡ answered_at stage.now }
 {

@@ -83,7 +83,8 @@ pub(crate) fn open_period(tick: Tick, i: &Instruction) -> Period
 }
 
 // An instruction: its switch is due, and no report awaits any more. After the answer the period starts at the previous
-// period's end, or at once if there was none.
+// period's end, or at once if there was none. The period is made here and not handed in, so that its maximum is known
+// to be in range.
 pub(crate) fn instruct_dues(tick: Tick, i: &Instruction, place: &Place) -> Dues
     requires { fits (Instruct i.now) ≡ true }
     ensures { let c = place.now.connection in result ≡ dues_instructed (answered_at c.stage) c.grant.previous tick.at i.now c.dues }
