@@ -21,15 +21,6 @@ adds_none p = record { text = sym (append-nil (text p)); behind = refl; room = o
 pub adds_is : {p q : Page} {a b : List ℕ} → a ≡ b → Adds p a q → Adds p b q
 adds_is {p} {q} e = subst (λ l. Adds p l q) e
 
--- a page lent for a while, and given back
-pub adds_as : {p line new q : Page} {bs : List ℕ} → Adds line bs new → text line ≡ text p → behind line ≡ behind p → text q ≡ text new → behind q ≡ behind new → SameLender p q → Adds p bs q
-adds_as {bs} adds text_was behind_was text_is behind_is lender = record {
-  text = text_is ∙ adds.text ∙ ap (λ l. l ++ bs) text_was;
-  behind = behind_is ∙ adds.behind ∙ ap (drop (length bs)) behind_was;
-  room = ap (λ l. length bs + length l) behind_is ∙ adds.room ∙ ap length behind_was;
-  lender = lender;
-}
-
 -- bs is written over the bytes behind the text
 pub adds_written : {p q : Page} {bs ys : List ℕ} {k : ℕ} → q.bytes.now ≡ put_mid p.end k p.bytes.now ys → q.end ≡ p.end + length bs → SameLender p q → ys ≡ bs → k ≡ length bs → p.end + length bs ≤ length p.bytes.now → Adds p bs q
 adds_written {p} {q} {bs} {ys} {k} wrote ends lender is long fits =
