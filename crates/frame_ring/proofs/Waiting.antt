@@ -1,6 +1,6 @@
 -- What a write behind those that wait and a read of the oldest do to a ring of frames. Assumes nothing.
 use Rattle.std.proofs.Common.{◌≡◌, ℕ, ◌+◌, ◌-◌, ◌/◌, Bool, cond, List, [], ◌∷◌, ◌++◌, length, Ok, Err, Result, sym, refl, ap, ◌∙◌, subst, arith, MatchResult}
-use Rattle.std.proofs.lemmas.List.{length_push}
+use Rattle.std.proofs.lemmas.List.{length_push, nil_from_length}
 use Rattle.report.specs.Lawful.{lawful}
 use Rattle.report.specs.declared.refusal.Refusal.{Refusal}
 use Rattle.report.specs.declared.refusal.Refusal.TheVariants.{OutOfRange, NoFreePlace}
@@ -21,7 +21,7 @@ pub length_waiting : (b : List ℕ) (w : Window) → length (waiting b w) ≡ co
 length_waiting b w = length_list (places b) w ∙ ap (λ n. count_of n w) (length_places b)
 
 -- free places and waiting reports make up the capacity
-makes_up : (b : List ℕ) (w : Window) → MakesUp (bytes_view b w)
+pub makes_up : (b : List ℕ) (w : Window) → MakesUp (bytes_view b w)
 makes_up b w = omega (arith, length_waiting b w)
 
 -- a frame that was written into the place that the window gives next waits behind the others
@@ -66,6 +66,10 @@ is_first b w r t size is leaves reads =
       freed = record { free = one; next = ap (λ k. slot k t.window) (sym n) ∙ h.next ∙ ap (λ k. slot k w) n };
       sum = makes_up b t.window;
     }
+
+-- nothing waits in a window without places
+pub none_waits : (b : List ℕ) (w : Window) (size : ℕ) → size ≡ places_in b → count_of size w ≡ 0 → waiting b w ≡ []
+none_waits b w size is none = nil_from_length (waiting b w) (length_waiting b w ∙ ap (λ k. count_of k w) (sym is) ∙ none)
 
 -- what one send through a ring in which nothing waited leaves in the bytes that were lent to it
 pub sent-once :

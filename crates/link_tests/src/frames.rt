@@ -30,6 +30,12 @@ fn send_four(bytes: &mut [u8]) -> [Result<(), u8>; 4] {
     ]
 }
 
+// A host's function that is handed a ring, and calls it: how many wait once the oldest is taken.
+fn left_after_one(mut ring: FrameRing<'_>) -> usize {
+    let _ = ring.take();
+    ring.len()
+}
+
 #[test]
 fn too_few_bytes_are_no_place(rt: HostRuntime) -> Result<(), Fail> {
     fills_and_empties(&rt, &mut FrameRing::new(&mut []), 0)?;
@@ -68,4 +74,14 @@ fn two_places_in_48_bytes(rt: HostRuntime) -> Result<(), Fail> {
     let mut bytes = [UNTOUCHED; 48];
     fills_and_empties(&rt, &mut FrameRing::new(&mut bytes), 2)?;
     goes_round(&rt, &mut FrameRing::new(&mut bytes), 2, 3)
+}
+
+#[test]
+fn a_ring_is_handed_on_and_called(rt: HostRuntime) -> Result<(), Fail> {
+    let mut bytes = [UNTOUCHED; 48];
+    let mut ring = FrameRing::new(&mut bytes);
+    assert!(rt; sent(&mut ring, numbered(1)) == Ok(()));
+    assert!(rt; sent(&mut ring, numbered(2)) == Ok(()));
+    assert!(rt; left_after_one(ring) == 1);
+    Ok(())
 }
