@@ -59,7 +59,7 @@ impl<L: Link> Engine<L> {
     }
 
     // Carries out an operation by its value.
-    pub(crate) fn operate(
+    fn operate(
         &mut self,
         tick: u32,
         address: Address,

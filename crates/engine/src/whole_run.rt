@@ -2,14 +2,16 @@
 ghost use Rattle.std.specs.Prelude.{◌≡◌};
 ghost use Rattle.rules.specs.Core.{start};
 ghost use Rattle.rules.specs.Steps.{Does, Run};
+ghost use Rattle.rules.specs.declared.call.Call.TheVariants.{On};
 ghost use Rattle.engine.specs.Answers.{replied};
 ghost use Rattle.engine.specs.Engines.{state};
 ghost use Rattle.engine.specs.Runs.{calls_of, replies_of, Ran};
 
+use crate::consultation::{Consultation, Returned};
 use crate::engine::Engine;
 use link::Link;
 use report::{Address, Refusal};
-use rules::{Call, Order, OrderKind, Reply};
+use rules::{Call, Operation, Order, OrderKind, Reply};
 
 // A call, and what it was answered. `reply` is no `Option`: a host lends the records, and `run` writes every reply before it
 // is read.
@@ -32,9 +34,52 @@ fn reply_of(answer: Result<(), Refusal>, order: Order) -> Reply
     answer.map_or_else(Reply::Refused, |()| Reply::Done(order))
 }
 
+// Why a call was refused. Nobody waits for the consultation that comes back, so it is surrendered.
+fn refusal_of(returned: Returned) -> Refusal
+    ensures { result ≡ returned.refusal }
+{
+    let Returned {
+        refusal,
+        consultation,
+    } = returned;
+    let _ = consultation.surrender();
+    refusal
+}
+
 impl<L: Link> Engine<L> {
-    // A call by its value. No consultation is made: an operation meets whatever connection the engine
-    // has at its address.
+    // An operation by its value, through the public call for it. A continue or a bar takes a consultation, so one is made
+    // here, for whatever connection the engine has at the address.
+    fn carry_out_at(
+        &mut self,
+        tick: u32,
+        address: Address,
+        operation: &Operation,
+        order: &mut Order,
+    ) -> Result<(), Refusal>
+        ensures { Does (On tick address operation.now) (state L.Link.view self.old) (replied result order.new) (state L.Link.view self.new) }
+    {
+        match operation {
+            Operation::SetUp => {
+                let consultation = self.set_up(tick, address, order)?;
+                let _ = consultation.surrender();
+                Ok(())
+            }
+            Operation::Continue => self
+                .continue_call(tick, Consultation::at(address), order)
+                .map_err(refusal_of),
+            Operation::Bar => self
+                .bar(tick, Consultation::at(address), order)
+                .map_err(refusal_of),
+            Operation::Instruct(instruction) => self.instruct(tick, address, instruction, order),
+            Operation::Advise(advice) => self.advise(tick, address, advice, order),
+            Operation::Answer => self.answer(tick, address, order),
+            Operation::Disconnect => self.disconnect(tick, address, order),
+            Operation::Confirm(number) => self.confirm(tick, address, *number, order),
+            Operation::Repeat => self.repeat(tick, address, order),
+        }
+    }
+
+    // A call by its value.
     fn carry_out(&mut self, call: &Call) -> Reply
         ensures { Does call.now (state L.Link.view self.old) result (state L.Link.view self.new) }
     {
@@ -45,7 +90,7 @@ impl<L: Link> Engine<L> {
                 address,
                 operation,
             } => {
-                let answer = self.operate(*tick, *address, operation, &mut order);
+                let answer = self.carry_out_at(*tick, *address, operation, &mut order);
                 reply_of(answer, order)
             }
             Call::Fire(tick) => {
