@@ -7,26 +7,30 @@ mod say;
 mod script;
 mod words;
 
-use engine::CallRecord;
 use frame::{FRAME, write};
 use lines::LINE;
-use play::{Played, Script, play, read_script};
-use report::Report;
+use play::{Entry, Played, Script, play, read_script};
+use report::{Refusal, Report};
 use rules::Reply;
 use say::Said;
-use script::Entry;
+use script::is_call;
 use std::io;
 use std::io::{BufWriter, Read, Write};
 use stream::Tally;
+use words::Words;
 
-// Prints each call with its reply, and then the line that is not understood.
-fn say_calls<W: Write>(out: &mut W, script: &Script, records: &[CallRecord]) -> io::Result<()> {
-    // `run` takes a slice of records alone, so the entries stand beside them: one record for each that has a call, in order
-    let mut replies = records.iter().map(|record| record.reply);
-    for Entry { words, call } in &script.entries {
-        let reply = match call {
-            Ok(_) => replies.next(),
-            Err(refusal) => Some(Reply::Refused(*refusal)),
+// Prints each call with its reply, and then the line that is not understood. The words are read again: kept beside the
+// records, they would take a seventh of the memory of these.
+fn say_calls<W: Write>(out: &mut W, text: &[u8], script: &Script) -> io::Result<()> {
+    let mut replies = script.records.iter().map(|record| record.reply);
+    let called = text
+        .split(|b| *b == b'\n')
+        .filter_map(|line| Words::of(line))
+        .filter(|words| is_call(*words));
+    for (words, entry) in called.zip(&script.entries) {
+        let reply = match entry {
+            Entry::Recorded => replies.next(),
+            Entry::NoBursts => Some(Reply::Refused(Refusal::OutOfRange)),
         };
         if let Some(reply) = reply {
             writeln!(out, "{words}: {}", Said(reply))?;
@@ -55,6 +59,7 @@ fn say_account<W: Write>(out: &mut W, tally: &mut Tally, report: &Report) -> io:
 // Prints the accounts of the reports taken, then of those that still wait.
 fn say_accounts<W: Write>(out: &mut W, played: &Played) -> io::Result<()> {
     let taken = played
+        .script
         .records
         .iter()
         .filter_map(|record| match &record.reply {
@@ -72,9 +77,9 @@ fn run(rt: &HostRuntime) -> anyhow::Result<()> {
     let mut text = Vec::new(rt.alloc());
     rt.stdin().read_to_end(&mut text)?;
     let script = read_script(rt.alloc(), &text)?;
-    let played = play(rt.alloc(), &script)?;
+    let played = play(rt.alloc(), script)?;
     let mut out = BufWriter::new(rt.alloc(), rt.stdout())?;
-    say_calls(&mut out, &script, &played.records)?;
+    say_calls(&mut out, &text, &played.script)?;
     say_accounts(&mut out, &played)?;
     out.flush()?;
     Ok(())

@@ -20,41 +20,35 @@ pub struct Pile {
     pub reserves: usize,
 }
 
-// The words of a call, and the call, or the refusal of a burst list that can't be made.
+// What a line says: a setting, a call or the refusal of a burst list that can't be made, or nothing.
 #[derive(Clone, Copy, PartialEq, Eq, Debug)]
-pub struct Entry<'a> {
-    pub words: Words<'a>,
-    pub call: Result<Call, Refusal>,
-}
-
-// What a line says.
-#[derive(Clone, Copy, PartialEq, Eq, Debug)]
-pub enum Line<'a> {
+pub enum Line {
     Blank,
     Wait(u32),
     Link(Pile),
-    Call(Entry<'a>),
+    Call(Result<Call, Refusal>),
 }
 
 const MOST_PLACES: usize = 64;
 
 const MOST_RESERVES: usize = 2;
 
-pub(crate) fn line_of(line: &[u8]) -> Option<Line<'_>> {
-    let words = Words::of(line)?;
-    let mut rest = words;
-    let Some(first) = rest.next() else {
+pub(crate) fn line_of(line: &[u8]) -> Option<Line> {
+    let mut words = Words::of(line)?;
+    let Some(first) = words.next() else {
         return Some(Line::Blank);
     };
     let said = match first {
-        "wait" => Line::Wait(rest.number()?),
-        "link" => Line::Link(read_pile(&mut rest)?),
-        _ => Line::Call(Entry {
-            words,
-            call: read_call(first, &mut rest)?,
-        }),
+        "wait" => Line::Wait(words.number()?),
+        "link" => Line::Link(read_pile(&mut words)?),
+        _ => Line::Call(read_call(first, &mut words)?),
     };
-    rest.next().is_none().then_some(said)
+    words.next().is_none().then_some(said)
+}
+
+// Whether the words of a line that is understood are a call.
+pub(crate) fn is_call(mut words: Words) -> bool {
+    !matches!(words.next(), None | Some("wait" | "link"))
 }
 
 fn read_pile(words: &mut Words) -> Option<Pile> {
