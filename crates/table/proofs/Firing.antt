@@ -133,7 +133,7 @@ module _ (room : Bool) (t : Table) (tick now : ℕ) (i : Item) (o : Option (Bor 
           by : (next : Option Connection) → turned ≡ next → fit_in tick i.address next ≡ true
           by None e = refl
           by (Some c) e =
-              let after-fit = subst (λ o. AllFit (after (fired tick o) s)) k.due (stays_fit.ever_after room (Fire tick) s passes (all_fit t)) in
+              let after-fit = subst (λ o. AllFit (after (fired tick o) s)) k.due (stays_fit.ever_after room (Fire tick) s passes (all_fit t.clock t.wait t.slots t.fitting)) in
               after-fit i.address c (ap (λ b. cond b turned (s.at i.address)) (same_self i.address) ∙ e)
 
       pub fires_so : (t' : Table) (kind : OrderKind) → core_of t' ≡ moved now i.address next s → kind ≡ by_timer_order i.timer (Some p.now.connection) → FollowsRule room (Fire tick) t (Ok (record { order = record { address = i.address; kind = kind }; report = r })) t'

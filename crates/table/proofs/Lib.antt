@@ -1,6 +1,6 @@
 mod Slots
 mod Moves
 mod Seeking
-mod Following
+pub mod Following
 mod Operations
 mod Firing

@@ -135,7 +135,7 @@ module _ (room : Bool) (t : Table) (tick now : ℕ) (a : Address) (x : Operation
         where
           by : (next : Option Connection) → by_operation x tick (s.at a) ≡ next → fit_in tick a next ≡ true
           by None q = refl
-          by (Some c) q = stays_fit.ever_after room (On tick a x) s (by_rows None own_clear) (all_fit t) a c (ap (λ b. cond b (by_operation x tick (s.at a)) (s.at a)) (same_self a) ∙ q)
+          by (Some c) q = stays_fit.ever_after room (On tick a x) s (by_rows None own_clear) (all_fit t.clock t.wait t.slots t.fitting) a c (ap (λ b. cond b (by_operation x tick (s.at a)) (s.at a)) (same_self a) ∙ q)
 
       pub room_next : RoomFor (is_some (s.at a)) s.count next
       room_next = room_for room x tick (s.at a) next s.count (ap (λ o. first (operation_rows room x o s.count)) (sym k.old.same) ∙ own_clear) next_is

@@ -17,5 +17,5 @@ pub mod table;
 mod tick;
 mod writes;
 
-pub use place::Outcome;
+pub use place::{Outcome, Place};
 pub use table::Table;

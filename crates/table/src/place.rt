@@ -5,14 +5,14 @@ ghost use Rattle.rules.specs.Sound.{sound};
 use report::{Address, Report};
 use rules::{Connection, Order};
 
-// A connection at its address. Its numbers are within their types: whoever builds one proves so, and only this crate can.
+// A connection at its address. Its numbers are within their types: whoever builds one proves so.
 // What a place reports, orders and becomes are functions in modules of their own, each over the place and a tick: methods
 // would only move the parameter.
 #[derive(Clone, Copy, PartialEq, Eq, Debug)]
 pub struct Place {
-    pub(crate) address: Address,
-    pub(crate) connection: Connection,
-    ghost bounded: { sound connection ≡ true },
+    pub address: Address,
+    pub connection: Connection,
+    pub ghost bounded: { sound connection ≡ true },
 }
 
 // What an admitted call asks of the host, and the report that goes, if one does.

@@ -39,8 +39,9 @@ fn sooner_of(best: Option<Item>, next: Option<Item>) -> Option<Item>
     ensures { result ≡ sooner best next }
 {
     match (best, next) {
-        (Some(b), Some(x)) => Some(b.min(x)),
-        _ => best.or(next),
+        (Some(b), Some(x)) if b <= x => best,
+        (_, Some(_)) => next,
+        _ => best,
     }
 }
 
