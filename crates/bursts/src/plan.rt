@@ -1,6 +1,6 @@
 // How long a burst list sounds, and the plan of its tones.
-ghost use Rattle.std.specs.Prelude.{◌≡◌, ◌<◌, ◌≤◌};
-ghost use Rattle.bursts.specs.Plan.{burst_length, sound_length, tone_at, Planned};
+ghost use Rattle.std.specs.Prelude.{◌≡◌, ◌<◌, ◌≤◌, length};
+ghost use Rattle.bursts.specs.Plan.{burst_length, sound_length, tone_at, tones_of, Planned};
 
 use crate::list::BurstList;
 use crate::make::BurstNumbers;
@@ -56,6 +56,17 @@ impl BurstList {
         }
     }
 
+    // Writes the tones of the burst `j` into `burst`, which has a place for each.
+    fn write_burst(&self, j: usize, burst: &mut [Tone])
+        requires burst { j < self.now.numbers.bursts }
+        requires places { length burst.old ≡ self.now.numbers.tones }
+        ensures { burst.new ≡ tones_of self.now j self.now.numbers.tones }
+    {
+        for (k, tone) in burst.iter_mut().enumerate() {
+            *tone = self.tone_at(j, k);
+        }
+    }
+
     // Writes each tone's start and length into the front of `place`, and says how many tones there are: a count, as its public
     // contract has it.
     pub fn tone_plan(&self, place: &mut [Tone]) -> Result<usize, Refusal>
@@ -66,8 +77,10 @@ impl BurstList {
         if place.len() < count {
             return Err(Refusal::PlaceTooShort);
         }
-        for (n, tone) in place[..count].iter_mut().enumerate() {
-            *tone = self.tone_at(n / tones, n % tones);
+        let plan = &mut place[..count];
+        for j in 0..self.numbers.bursts as usize {
+            let at = j * tones;
+            self.write_burst(j, &mut plan[at..at + tones]);
         }
         Ok(count)
     }

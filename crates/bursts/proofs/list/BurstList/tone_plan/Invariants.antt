@@ -1,6 +1,6 @@
-use Rattle.std.proofs.Common.{◌≡◌, take}
-use Rattle.bursts.proofs.Steps.{first_tones}
+use Rattle.std.proofs.Common.{◌≡◌, ◌*◌, take}
+use Rattle.bursts.specs.Plan.{bursts_of}
 use Rattle.bursts.proofs.list.BurstList.tone_plan.Given as goal
 
-abbrev pub invariant-loop-n : goal.invariant-loop-n
-invariant-loop-n l = take l.n l.tone-items ≡ first_tones l.self l.n
+abbrev pub invariant-loop-j : goal.invariant-loop-j
+invariant-loop-j l = take (l.j * l.tones) l.plan ≡ bursts_of l.self l.j
