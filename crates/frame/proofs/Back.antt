@@ -86,6 +86,10 @@ frames_read b r l e =
     let h = holds b r l e in
     let n = no_fault b r l h in (n, ap (λ o. or_blank o (fields_say b)) n ∙ fields_back b r h)
 
+-- the frame of a lawful report means that report, whatever stands further on
+pub decode_frame : (r : Report) (more : List ℕ) → lawful r ≡ true → decode (frame r ++ more) ≡ r
+decode_frame r more l = (frames_read (frame r ++ more) r l refl).1
+
 -- a place that a frame was written into reads as the report
 pub is_written : (r : Report) (old new : List ℕ) → lawful r ≡ true → frame_size ≤ length old → new ≡ frame r ++ drop frame_size old → FrameWritten r old new
 is_written r old new l room e =

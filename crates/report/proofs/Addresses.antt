@@ -27,6 +27,9 @@ same_not x a e p =
 pub not_same : (x a : Address) → (x ≡ a → ⊥) → same x a ≡ false
 not_same x a h = elim (cases_Bool (same x a)) [ inl t ↦ absurd (h (same_address x a t)) | inr f ↦ f ]
 
+pub same_swap : (x a : Address) → same x a ≡ same a x
+same_swap x a = grind (arith, nat_tests)
+
 one_or_two : (k : ℕ) → 1 ≤ k → k ≤ 2 → (k ≡ 1) ⊎ (k ≡ 2)
 one_or_two k l h = grind arith
 

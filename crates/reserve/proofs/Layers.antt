@@ -1,5 +1,5 @@
 -- How the reports of a reserve come, go and move down. Assumes nothing.
-use Rattle.std.proofs.Common.{◌≡◌, ℕ, ◌+◌, ◌-◌, ◌<◌, ◌≤◌, true, false, List, [], ◌∷◌, ◌++◌, length, get_or, take, drop, Ok, sym, ap, ◌∙◌, subst, ⊎_elim, append_assoc, arith, length-drop}
+use Rattle.std.proofs.Common.{◌≡◌, ℕ, ◌+◌, ◌-◌, ◌<◌, ◌≤◌, true, false, List, [], ◌∷◌, ◌++◌, length, get_or, take, drop, Ok, sym, ap, ◌∙◌, subst, ⊎_elim, append_assoc, append-nil, arith, length-drop}
 use Rattle.std.proofs.ByRecursion.{All-push, All-drop}
 use Rattle.std.proofs.lemmas.List.{drop_more, take_more, nil_from_length, length_push}
 use Rattle.std.proofs.lemmas.Bool.{cond-false, cases_eq, lt-ltb, le-ltb}
@@ -45,6 +45,12 @@ next_of h k n r e =
     let both = drop_more h n r lt in
     let is : get_or h n r ≡ r = cc in
     (lt, take_more h n r lt ∙ ap (λ x. take n h ++ x ∷ []) is, cc)
+
+-- where none goes down, all is as it was
+pub moved_none : (s : Lies) → s ≡ moved 0 s
+moved_none s =
+    let free : s.below.free ≡ s.below.free - 0 = omega arith in
+    (λ i. record { below = record { waiting = sym (append-nil s.below.waiting) i; free = free i; capacity = s.below.capacity }; held = s.held })
 
 -- one more goes down
 pub moved_more : (s t u : Lies) (n : ℕ) → t ≡ moved n s → Moves t u → (n < length s.held) × (n < s.below.free) × (u ≡ moved (n + 1) s)
