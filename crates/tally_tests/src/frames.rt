@@ -19,10 +19,11 @@ fn sample() -> Report {
     }
 }
 
-// The number and the place of the refusal of some bytes, if they are refused: the returned numbers are what is tested.
+// The number and the place, or 0 where there is none, of the refusal of some bytes, if they are refused: the returned numbers
+// are what is tested.
 fn refused(bytes: &[u8]) -> Option<(u8, usize)> {
     let refusal = read(bytes).err()?;
-    Some((refusal.number(), refusal.place()?))
+    Some((refusal.number(), refusal.place().unwrap_or(0)))
 }
 
 // A byte of the sample changed: where it is refused.
