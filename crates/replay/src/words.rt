@@ -39,14 +39,16 @@ impl<'a> Words<'a> {
         Some(Words { rest })
     }
 
-    // Takes the next word if it is this one.
+    // Takes the next word if it is this one. Another word is not read to its end.
     pub(crate) fn takes(&mut self, word: &str) -> bool {
-        let mut ahead = *self;
-        let is_next = ahead.next() == Some(word);
-        if is_next {
-            *self = ahead;
+        let Some(behind) = self.rest.trim_start_matches(BLANKS).strip_prefix(word) else {
+            return false;
+        };
+        let is_whole = behind.is_empty() || behind.starts_with(BLANKS);
+        if is_whole {
+            self.rest = behind;
         }
-        is_next
+        is_whole
     }
 
     pub(crate) fn number<T: FromStr>(&mut self) -> Option<T>
