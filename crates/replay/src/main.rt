@@ -27,7 +27,8 @@ fn say_calls<W: Write>(out: &mut W, text: &[u8], script: &Script) -> io::Result<
         .split(|b| *b == b'\n')
         .filter_map(|line| Words::of(line))
         .filter(|words| is_call(*words));
-    for (words, entry) in called.zip(&script.entries) {
+    // by the entries first, so that no line behind the last of them is read again
+    for (entry, words) in script.entries.iter().zip(called) {
         let reply = match entry {
             Entry::Recorded => replies.next(),
             Entry::NoBursts => Some(Reply::Refused(Refusal::OutOfRange)),
